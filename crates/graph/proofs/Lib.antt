@@ -1,0 +1,16 @@
+pub mod Bools
+pub mod Sums
+pub mod EveryCut
+pub mod Stars
+pub mod Parity
+pub mod Partners
+pub mod Splitting
+pub mod Lemma8
+pub mod Lemma9
+pub mod Integers
+pub mod Lifting
+pub mod Endings
+pub mod Rules
+pub mod Plans
+pub mod Condition
+pub mod Examples

@@ -1,0 +1,270 @@
+-- Going back through a step: the kept cost, the cost of all but the reserved edge, and the kept crossing count.
+use mathlib.Core.Path.{_≡_, refl, sym, _∙_, ap, ap₂}
+use mathlib.Core.Logic.{_≢_}
+use mathlib.Core.Bool.{Bool, true, false, not, cond}
+use mathlib.Core.List.{List}
+use Prim.Native.Nat.{ℕ, _+_, _*_, _≤_, _<_}
+use native.Mathlib.Omega.{arith}
+use lib.Dec.{eqb}
+use lib.ListN.{length, getD, set, length-set}
+use lib.Seq.{getD-set-same, getD-set-other, lt-length-set}
+use lib.IntN.{ℤ, pos, natAbs, _+ℤ_, _-ℤ_, _*ℤ_}
+use lib.Signed.{_≤ℤ_}
+use Rattle.graph.specs.Fold.{sum, sumℤ}
+use Rattle.graph.specs.Network.{costOf, here, costOver, kept, keptCost, allButReserved}
+use Rattle.graph.specs.Cut.{Side, differ, crosses, crossingsOf, keptCrossings, Divides, EveryCutOf}
+use Rattle.graph.specs.Split.{split}
+use Rattle.graph.specs.Chain.{lift}
+use Rattle.graph.specs.Sound.{Formed, Sound, weight}
+use Rattle.graph.specs.declared.Network.{Network}
+use Rattle.graph.proofs.Bools.{never, eqb-self, eqb-no}
+use Rattle.graph.proofs.Sums.{sum-change-four, Four}
+use Rattle.graph.proofs.Integers.{P, N, plus, minus, times-P, times-N, halves, eqℤ, ≤ℤ-is, is-≤ℤ, size-minus, sumℤ-change-four}
+use Rattle.graph.proofs.Stars.{differ-same, Runs, runs-crosses, Star, cost-z, cost-x, cost-y, cost-other, cost-reserved, split-z, split-x, split-y, split-crosses}
+use Rattle.graph.proofs.Splitting.{still-here, far-here}
+
+-- ── the marks after going back ──
+module _ {g : Network} {v x y z u a b c : ℕ} (s : Star g v x y z u a b c) (K : List Bool) (room : g .edges ≤ length K) where
+  pub lift-other : (e : ℕ) → e ≢ x → e ≢ y → kept (lift x y z K) e ≡ kept K e
+  unfolding lift
+  lift-other e nx ny = simp getD-set-other
+
+  lift-x : kept (lift x y z K) x ≡ not (kept K z)
+  unfolding lift
+  lift-x = let l : x < length K = omega (arith, s .four .x<) in simp (getD-set-same, lt-length-set)
+
+  lift-y : kept (lift x y z K) y ≡ true
+  unfolding lift
+  lift-y =
+      let l : y < length K = omega (arith, s .four .y<) in
+      let ne : y ≢ x = λ e. s .four .xy (sym e) in
+      simp (getD-set-same, getD-set-other)
+
+  lift-z : kept (lift x y z K) z ≡ kept K z
+  lift-z = lift-other z (λ e. s .four .xz (sym e)) (λ e. s .four .yz (sym e))
+
+pub lift-length : (x y z : ℕ) (K : List Bool) → length (lift x y z K) ≡ length K
+unfolding lift
+lift-length x y z K = simp length-set
+
+-- a retired edge costs nothing, kept or not
+nothing : (t : Bool) → cond t (pos 0) (pos 0) ≡ pos 0
+nothing true = refl
+nothing false = refl
+
+-- ── costs ──
+module _ {g : Network} (f : Formed g) {v x y z u a b c : ℕ} (s : Star g v x y z u a b c) where
+  -- working costs: the sum of the sizes never grows
+  pub weight-after : weight (split g v x y z) ≤ weight g
+  unfolding weight split
+  weight-after =
+      let p : ℕ → ℕ = λ e. natAbs (costOf (split g v x y z) e) in
+      let q : ℕ → ℕ = λ e. natAbs (costOf g e) in
+      omega (
+        arith,
+        sum-change-four (s .four) p q (λ e l nr nx ny nz. ap natAbs (cost-other f s e nx ny nz)),
+        ap natAbs (cost-reserved f s),
+        ap natAbs (cost-x f s),
+        ap natAbs (cost-y f s),
+        ap natAbs (cost-z f s),
+        size-minus (costOf g z) (costOf g x),
+      )
+
+  -- all but the reserved: before = after + 2 c(x) + c(y)
+  pub all-cost : allButReserved g ≡ allButReserved (split g v x y z) +ℤ costOf g x +ℤ costOf g x +ℤ costOf g y
+  unfolding costOver split P N
+  all-cost =
+      let p : ℕ → ℤ = λ e. cond (not (eqb e (g .reserved))) (costOf g e) (pos 0) in
+      let q : ℕ → ℤ = λ e. cond (not (eqb e (g .reserved))) (costOf (split g v x y z) e) (pos 0) in
+      let C = allButReserved (split g v x y z) in
+      let cx = costOf g x in
+      let cy = costOf g y in
+      let cz = costOf g z in
+      let w = s .four in
+      let apart : (e : ℕ) → g .reserved ≢ e → eqb e (g .reserved) ≡ false = λ e ne. eqb-no (λ k. ne (sym k)) in
+      let pr : p (g .reserved) ≡ pos 0 = rw (eqb-self (g .reserved)) in
+      let qr : q (g .reserved) ≡ pos 0 = rw (eqb-self (g .reserved)) in
+      let px : p x ≡ cx = rw (apart x (w .rx)) in
+      let qx : q x ≡ pos 0 = rw (apart x (w .rx)) (cost-x f s) in
+      let py : p y ≡ cy = rw (apart y (w .ry)) in
+      let qy : q y ≡ pos 0 = rw (apart y (w .ry)) (cost-y f s) in
+      let pz : p z ≡ cz = rw (apart z (w .rz)) in
+      let qz : q z ≡ cz -ℤ cx = rw (apart z (w .rz)) (cost-z f s) in
+      let e = sumℤ-change-four w p q (λ e l nr nx ny nz. ap (λ k. cond (not (eqb e (g .reserved))) k (pos 0)) (sym (cost-other f s e nx ny nz))) in
+      eqℤ _ _ (omega (
+        arith,
+        e,
+        halves pr,
+        halves qr,
+        halves px,
+        halves qx,
+        halves py,
+        halves qy,
+        halves pz,
+        halves qz,
+        minus cz cx,
+        plus C cx,
+        plus (C +ℤ cx) cx,
+        plus (C +ℤ cx +ℤ cx) cy,
+      ))
+
+  module _ (K : List Bool) (room : g .edges ≤ length K) where
+    -- kept cost before = kept cost after + c(x) + c(y), both ways
+    pub kept-cost : keptCost g (lift x y z K) ≡ keptCost (split g v x y z) K +ℤ costOf g x +ℤ costOf g y
+    unfolding costOver split P N
+    kept-cost =
+        let p : ℕ → ℤ = λ e. cond (kept (lift x y z K) e) (costOf g e) (pos 0) in
+        let q : ℕ → ℤ = λ e. cond (kept K e) (costOf (split g v x y z) e) (pos 0) in
+        let C = keptCost (split g v x y z) K in
+        let cx = costOf g x in
+        let cy = costOf g y in
+        let cz = costOf g z in
+        let pr : p (g .reserved) ≡ q (g .reserved) = rw (lift-other s K room (g .reserved) (s .four .rx) (s .four .ry), (cost-reserved f s)) in
+        let px : p x ≡ cond (not (kept K z)) cx (pos 0) = rw (lift-x s K room) in
+        let qx : q x ≡ pos 0 = rw (cost-x f s) (nothing (kept K x)) in
+        let py : p y ≡ cy = rw (lift-y s K room) in
+        let qy : q y ≡ pos 0 = rw (cost-y f s) (nothing (kept K y)) in
+        let pz : p z ≡ cond (kept K z) cz (pos 0) = rw (lift-z s K room) in
+        let qz : q z ≡ cond (kept K z) (cz -ℤ cx) (pos 0) = rw (cost-z f s) in
+        let e = sumℤ-change-four (s .four) p q (λ e l nr nx ny nz. rw (lift-other s K room e nx ny, cost-other f s e nx ny nz)) in
+        let mid : p x +ℤ p z ≡ q z +ℤ cx = ap₂ _+ℤ_ px pz ∙ exchange (kept K z) cx cz ∙ ap (λ k. k +ℤ cx) (sym qz) in
+        eqℤ _ _ (omega (
+          arith,
+          e,
+          halves pr,
+          halves qx,
+          halves py,
+          halves qy,
+          halves mid,
+          plus (p x) (p z),
+          plus (q z) cx,
+          plus C cx,
+          plus (C +ℤ cx) cy,
+        ))
+      where
+        exchange : (t : Bool) (cx cz : ℤ) → cond (not t) cx (pos 0) +ℤ cond t cz (pos 0) ≡ cond t (cz -ℤ cx) (pos 0) +ℤ cx
+        exchange true cx cz = unfold P N in eqℤ _ _ (omega (arith, plus (pos 0) cz, minus cz cx, plus (cz -ℤ cx) cx))
+        exchange false cx cz = unfold P N in eqℤ _ _ (omega (arith, plus cx (pos 0), plus (pos 0) cx))
+
+    -- the ratio goes back through a step with c(y) at most c(x)
+    pub ratio-step : costOf g y ≤ℤ costOf g x → (pos 3 *ℤ keptCost (split g v x y z) K) ≤ℤ (pos 2 *ℤ allButReserved (split g v x y z))
+        → (pos 3 *ℤ keptCost g (lift x y z K)) ≤ℤ (pos 2 *ℤ allButReserved g)
+    ratio-step h k =
+        let cx = costOf g x in
+        let cy = costOf g y in
+        let C = keptCost (split g v x y z) K in
+        let A = allButReserved (split g v x y z) in
+        let D = keptCost g (lift x y z K) in
+        let B = allButReserved g in
+        is-≤ℤ (omega (
+          arith,
+          ≤ℤ-is h,
+          ≤ℤ-is k,
+          halves kept-cost,
+          halves all-cost,
+          times-P 3 C,
+          times-N 3 C,
+          times-P 2 A,
+          times-N 2 A,
+          times-P 3 D,
+          times-N 3 D,
+          times-P 2 B,
+          times-N 2 B,
+          plus C cx,
+          plus (C +ℤ cx) cy,
+          plus A cx,
+          plus (A +ℤ cx) cx,
+          plus (A +ℤ cx +ℤ cx) cy,
+        ))
+
+-- ── crossing counts ──
+
+-- z is kept: k cross before, j after
+lift-kept : (v b c : Bool) (k j : ℕ) → k + differ b c ≡ j + (differ v b + differ v c) → (b ≡ v → 2 ≤ j) → (c ≡ v → 2 ≤ j) → 2 ≤ k
+unfolding differ
+lift-kept true true true k j e p q = omega (arith, p refl)
+lift-kept true true false k j e p q = omega (arith, p refl)
+lift-kept true false true k j e p q = omega (arith, q refl)
+lift-kept true false false k j e p q = omega arith
+lift-kept false false false k j e p q = omega (arith, p refl)
+lift-kept false false true k j e p q = omega (arith, p refl)
+lift-kept false true false k j e p q = omega (arith, q refl)
+lift-kept false true true k j e p q = omega arith
+
+-- z is not kept
+lift-left-out : (v b a : Bool) (k j : ℕ) → k ≡ j + (differ v a + differ v b) → (b ≡ v → 2 ≤ j) → (a ≡ v → 2 ≤ j) → 2 ≤ k
+unfolding differ
+lift-left-out true true a k j e p q = omega (arith, p refl)
+lift-left-out true false true k j e p q = omega (arith, q refl)
+lift-left-out true false false k j e p q = omega arith
+lift-left-out false false a k j e p q = omega (arith, p refl)
+lift-left-out false true false k j e p q = omega (arith, q refl)
+lift-left-out false true true k j e p q = omega arith
+
+-- a cut with v and another present vertex in one part is a cut of what is left
+divides-after : (g : Network) (v x y z w : ℕ) (S : Side) → here g w ≡ true → w ≢ v → Divides g S → S w ≡ S v → Divides (split g v x y z) S
+divides-after g v x y z w S hw ne d e = go (S v) refl
+  where
+    go : (t : Bool) → S v ≡ t → Divides (split g v x y z) S
+    go true q = record {
+      inner = w;
+      outer = d .outer;
+      inner-here = still-here g v x y z w hw ne;
+      outer-here = still-here g v x y z (d .outer) (d .outer-here) (λ k. never (sym (d .outer-out) ∙ ap S k ∙ q));
+      inner-in = e ∙ q;
+      outer-out = d .outer-out;
+    }
+    go false q = record {
+      inner = d .inner;
+      outer = w;
+      outer-here = still-here g v x y z w hw ne;
+      inner-here = still-here g v x y z (d .inner) (d .inner-here) (λ k. never (sym q ∙ sym (ap S k) ∙ d .inner-in));
+      outer-out = e ∙ q;
+      inner-in = d .inner-in;
+    }
+
+module _ {g : Network} (sound : Sound g) {v x y z u a b c : ℕ} (s : Star g v x y z u a b c) (v-here : here g v ≡ true)
+    (K : List Bool) (room : g .edges ≤ length K) (free : kept K (g .reserved) ≡ false) where
+  kept-crossings : (S : Side) → keptCrossings g (lift x y z K) S + cond (kept K z) (differ (S b) (S c)) 0
+      ≡ keptCrossings (split g v x y z) K S + (cond (not (kept K z)) (differ (S v) (S a)) 0 + differ (S v) (S b) + cond (kept K z) (differ (S v) (S c)) 0)
+  unfolding crossingsOf split
+  kept-crossings S =
+      let f = sound .formed in
+      let p : ℕ → ℕ = λ e. cond (kept (lift x y z K) e) (crosses g S e) 0 in
+      let q : ℕ → ℕ = λ e. cond (kept K e) (crosses (split g v x y z) S e) 0 in
+      let none : (t : Bool) (n : ℕ) → n ≡ 0 → cond t n 0 ≡ 0 = λ t n e. rw e (zero t) in
+      let pr : p (g .reserved) ≡ 0 = rw (lift-other s K room (g .reserved) (s .four .rx) (s .four .ry), free) in
+      let qr : q (g .reserved) ≡ 0 = rw free in
+      let px : p x ≡ cond (not (kept K z)) (differ (S v) (S a)) 0 = rw (lift-x s K room, runs-crosses S (s .to-a)) in
+      let qx : q x ≡ 0 = none (kept K x) _ (runs-crosses S (split-x f s) ∙ differ-same (S v)) in
+      let py : p y ≡ differ (S v) (S b) = rw (lift-y s K room, runs-crosses S (s .to-b)) in
+      let qy : q y ≡ 0 = none (kept K y) _ (runs-crosses S (split-y f s) ∙ differ-same (S v)) in
+      let pz : p z ≡ cond (kept K z) (differ (S v) (S c)) 0 = rw (lift-z s K room, runs-crosses S (s .to-c)) in
+      let qz : q z ≡ cond (kept K z) (differ (S b) (S c)) 0 = rw (runs-crosses S (split-z f s)) in
+      omega (
+        arith,
+        pr,
+        qr,
+        px,
+        qx,
+        py,
+        qy,
+        pz,
+        qz,
+        sum-change-four (s .four) p q (λ e l nr nx ny nz. ap₂ (λ t n. cond t n 0) (lift-other s K room e nx ny) (sym (split-crosses f s S e nr nx ny nz))),
+      )
+    where
+      zero : (t : Bool) → cond {A = ℕ} t 0 0 ≡ 0
+      zero true = refl
+      zero false = refl
+
+  -- every cut crossed at least twice by the kept edges: before the step too
+  pub lift-cuts : EveryCutOf 2 (split g v x y z) (kept K) → EveryCutOf 2 g (kept (lift x y z K))
+  lift-cuts h S d = go (kept K z) refl
+    where
+      after : {e w : ℕ} → e < g .edges → Runs g e v w → w ≢ v → S w ≡ S v → 2 ≤ keptCrossings (split g v x y z) K S
+      after {w = w} l t ne e = h S (divides-after g v x y z w S (far-here sound s v-here l t) ne d e)
+
+      go : (t : Bool) → kept K z ≡ t → 2 ≤ keptCrossings g (lift x y z K) S
+      go true e = lift-kept (S v) (S b) (S c) _ _ (let w = rw e at (kept-crossings S) in omega arith) (after (s .four .y<) (s .to-b) (s .b≢)) (after (s .four .z<) (s .to-c) (s .c≢))
+      go false e = lift-left-out (S v) (S b) (S a) _ _ (let w = rw e at (kept-crossings S) in omega arith) (after (s .four .y<) (s .to-b) (s .b≢)) (after (s .four .x<) (s .to-a) (s .a≢))

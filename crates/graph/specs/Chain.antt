@@ -1,0 +1,113 @@
+-- Chains: steps and the ending by rule, going back, and the check of a whole chain.
+use mathlib.Core.Bool.{Bool, true, false, not, cond, _&&_}
+use mathlib.Core.List.{List, [], _∷_}
+use mathlib.Core.Logic.{_⊎_, _≢_}
+use mathlib.Core.Path.{_≡_}
+use Prim.Native.Nat.{ℕ, zero, suc, _<_}
+use lib.Dec.{eqb, ltb}
+use lib.ListN.{length, getD, set}
+use lib.Signed.{leZ, ltZ, _≤ℤ_}
+use Rattle.graph.specs.Fold.{pick, without, among, tabulate}
+use Rattle.graph.specs.Network.{lowEnd, highEnd, costOf, here, touches}
+use Rattle.graph.specs.Cut.{EveryCut}
+use Rattle.graph.specs.Split.{partners, splitWith, admissible, third, after}
+use Rattle.graph.specs.declared.Network.{Network}
+use Rattle.graph.specs.declared.Step.{Step}
+
+-- ── the check, which computes ──
+
+-- the refusal of a step, 0 for none: 8 where v is no end of the reserved edge, 9 where x or y is no partner or they are one,
+-- 10 where one of them is not admissible, 11 where x costs less than y
+unfoldable pub stepRefusal : Network → Step → ℕ
+stepRefusal g t =
+    let ps = partners g (t .v) in
+    let eleven : ℕ = cond (ltZ (costOf g (t .x)) (costOf g (t .y))) 11 0 in
+    let ten : ℕ = cond (admissible g (t .v) (t .x) && admissible g (t .v) (t .y)) eleven 10 in
+    let nine : ℕ = cond (among (t .x) ps && among (t .y) ps && not (eqb (t .x) (t .y))) ten 9 in
+    cond (touches g (t .v) (g .reserved)) nine 8
+
+-- the edges that are neither retired nor reserved; with two vertices left, the last three
+unfoldable pub lastEdges : Network → List ℕ
+lastEdges g = pick (g .edges) 0 (λ e. here g (lowEnd g e) && not (eqb e (g .reserved)))
+
+-- no edge of a list costs more than e
+unfoldable pub dearest : Network → ℕ → List ℕ → Bool
+dearest g e [] = true
+dearest g e (i ∷ is) = leZ (costOf g i) (costOf g e) && dearest g e is
+
+-- the refusal of the ending, 0 for none: 12 where the dropped edge is none of the last three, or cheaper than another
+unfoldable pub endRefusal : Network → ℕ → ℕ
+endRefusal g d = cond (among d (lastEdges g) && dearest g d (lastEdges g)) 0 12
+
+-- a mark for each place of the network's columns: whether that edge stands in a list
+unfoldable pub marks : Network → List ℕ → List Bool
+marks g is = tabulate (length (g .low)) (λ e. among e is)
+
+-- the ending keeps the other two
+unfoldable pub endKept : Network → ℕ → List Bool
+endKept g d = marks g (without d (lastEdges g))
+
+-- going back through a step: y is kept, and x exactly if z is not
+unfoldable pub lift : ℕ → ℕ → ℕ → List Bool → List Bool
+lift x y z K = set (set K y true) x (not (getD K z false))
+
+-- what the check of a chain finds
+pub data Verdict : Type 0 where
+  refused : ℕ → Verdict
+  keeps : List Bool → Verdict
+
+unfoldable pub liftVerdict : Network → Step → Verdict → Verdict
+liftVerdict g t (refused k) = refused k
+liftVerdict g t (keeps K) = keeps (lift (t .x) (t .y) (third g t) K)
+
+-- a refusal, or what follows where there is none
+unfoldable pub unless : ℕ → Verdict → Verdict
+unless zero next = next
+unless (suc k) next = refused (suc k)
+
+-- the check of a chain: its steps, and the edge that the ending drops. A step too many or too few is 1 at its place
+unfoldable pub check : Network → List Step → ℕ → Verdict
+check g [] d = let ending = unless (endRefusal g d) (keeps (endKept g d)) in cond (eqb (g .remaining) 2) ending (refused 1)
+check g (t ∷ ts) d =
+    let later = liftVerdict g t (check (after g t) ts d) in
+    cond (ltb 2 (g .remaining)) (unless (stepRefusal g t) later) (refused 1)
+
+-- ── the rules, as a relation ──
+
+-- edge e is a partner at v
+pub record Partner (g : Network) (v e : ℕ) : Type 0 where
+  pub number : e < g .edges
+  pub at-v : (lowEnd g e ≡ v) ⊎ (highEnd g e ≡ v)
+  pub not-reserved : e ≢ g .reserved
+
+-- a step by rule: two different admissible partners at an end of the reserved edge, the first no cheaper than the second
+pub record StepByRule (g : Network) (t : Step) : Type 0 where
+  pub at-end : (lowEnd g (g .reserved) ≡ t .v) ⊎ (highEnd g (g .reserved) ≡ t .v)
+  pub x-partner : Partner g (t .v) (t .x)
+  pub y-partner : Partner g (t .v) (t .y)
+  pub different : t .x ≢ t .y
+  pub x-admissible : EveryCut 4 (splitWith g (t .v) (t .x))
+  pub y-admissible : EveryCut 4 (splitWith g (t .v) (t .y))
+  pub no-cheaper : costOf g (t .y) ≤ℤ costOf g (t .x)
+
+-- one of the last three edges: it is neither retired nor reserved
+pub record LastEdge (g : Network) (e : ℕ) : Type 0 where
+  pub number : e < g .edges
+  pub not-retired : here g (lowEnd g e) ≡ true
+  pub not-reserved : e ≢ g .reserved
+
+-- an ending by rule: it drops a dearest of the last three
+pub record EndingByRule (g : Network) (d : ℕ) : Type 0 where
+  pub one : LastEdge g d
+  pub no-dearer : (e : ℕ) → LastEdge g e → costOf g e ≤ℤ costOf g d
+
+-- a chain by the rules: each step on the network that the steps before it left, until two vertices are left
+pub data ByRules : Network → List Step → ℕ → Type 0 where
+  ending : {g : Network} {d : ℕ} → g .remaining ≡ 2 → EndingByRule g d → ByRules g [] d
+  step : {g : Network} {t : Step} {ts : List Step} {d : ℕ}
+      → 2 < g .remaining → StepByRule g t → ByRules (after g t) ts d → ByRules g (t ∷ ts) d
+
+-- a run of steps by rule leads from one network to another
+pub data Leads : Network → List Step → Network → Type 0 where
+  stays : {g : Network} → Leads g [] g
+  goes : {g h : Network} {t : Step} {ts : List Step} → 2 < g .remaining → StepByRule g t → Leads (after g t) ts h → Leads g (t ∷ ts) h

@@ -1,0 +1,46 @@
+-- The planner's choices, and the plan.
+use mathlib.Core.Bool.{cond}
+use mathlib.Core.List.{List, [], _∷_}
+use Prim.Native.Nat.{ℕ, zero, suc, _-_, max}
+use lib.ListN.{getD}
+use lib.Signed.{leZ, ltZ}
+use Rattle.graph.specs.Fold.{only}
+use Rattle.graph.specs.Network.{lowEnd, highEnd, costOf}
+use Rattle.graph.specs.Split.{partners, admissible, after}
+use Rattle.graph.specs.Chain.{lastEdges}
+use Rattle.graph.specs.declared.Network.{Network}
+use Rattle.graph.specs.declared.Step.{Step}
+
+-- v is the higher-numbered end of the reserved edge
+unfoldable pub chosenVertex : Network → ℕ
+chosenVertex g = max (lowEnd g (g .reserved)) (highEnd g (g .reserved))
+
+-- of two partners the dearer is x, and of equal costs the lower number, which is the first
+unfoldable pub ordered : Network → ℕ → ℕ → ℕ → Step
+ordered g v i j =
+    cond (ltZ (costOf g i) (costOf g j)) (record { v = v; x = j; y = i }) (record { v = v; x = i; y = j })
+
+-- the step with the two lowest-numbered admissible partners
+unfoldable pub chosenStep : Network → Step
+chosenStep g =
+    let v = chosenVertex g in
+    let usable = only (admissible g v) (partners g v) in
+    ordered g v (getD usable 0 0) (getD usable 1 0)
+
+-- the dearest of d and a list's edges; of equally dear ones the last
+unfoldable pub dearestOf : Network → ℕ → List ℕ → ℕ
+dearestOf g d [] = d
+dearestOf g d (i ∷ is) = dearestOf g (cond (leZ (costOf g d) (costOf g i)) i d) is
+
+-- the ending drops the highest number among the dearest
+unfoldable pub chosenDrop : Network → ℕ
+chosenDrop g = let is = lastEdges g in dearestOf g (getD is 0 0) is
+
+-- the plan's chain: n steps, and the edge dropped after them
+unfoldable pub planSteps : ℕ → Network → List Step
+planSteps zero g = []
+planSteps (suc n) g = let t = chosenStep g in t ∷ planSteps n (after g t)
+
+unfoldable pub planDrop : ℕ → Network → ℕ
+planDrop zero g = chosenDrop g
+planDrop (suc n) g = planDrop n (after g (chosenStep g))

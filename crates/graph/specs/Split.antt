@@ -1,0 +1,60 @@
+-- Partners, splitting off a vertex, and admissible partners.
+use mathlib.Core.Bool.{Bool, true, false, not, _&&_}
+use mathlib.Core.List.{List}
+use Prim.Native.Nat.{ℕ, _-_}
+use lib.Dec.{eqb}
+use lib.ListN.{getD, set}
+use lib.IntN.{ℤ, pos, _-ℤ_}
+use Rattle.graph.specs.Fold.{pick, without}
+use Rattle.graph.specs.Network.{lowEnd, highEnd, costOf, touches, far}
+use Rattle.graph.specs.Cut.{everyCut}
+use Rattle.graph.specs.declared.Network.{Network}
+use Rattle.graph.specs.declared.Step.{Step}
+
+-- an edge other than the reserved one that ends at v
+unfoldable pub isPartner : Network → ℕ → ℕ → Bool
+isPartner g v e = touches g v e && not (eqb e (g .reserved))
+
+-- the partners at v, in rising order
+unfoldable pub partners : Network → ℕ → List ℕ
+partners g v = pick (g .edges) 0 (isPartner g v)
+
+-- a column of ends after a split: r and z end elsewhere, x and y are loops at v
+abbrev pub splitEnds : List ℕ → ℕ → ℕ → ℕ → ℕ → ℕ → ℕ → ℕ → List ℕ
+splitEnds column r newR z newZ x y v = set (set (set (set column r newR) z newZ) x v) y v
+
+-- the costs after a split: z costs c(z) - c(x), and retired edges nothing
+abbrev pub splitCosts : List ℤ → ℕ → ℕ → ℕ → List ℤ
+splitCosts costs x y z = set (set (set costs z (getD costs z (pos 0) -ℤ getD costs x (pos 0))) x (pos 0)) y (pos 0)
+
+-- splitting off v with partner x, the others being y and z: the reserved edge runs on to the far end of x,
+-- z runs from the far end of y to its own, x and y retire, and v leaves
+unfoldable pub split : Network → ℕ → ℕ → ℕ → ℕ → Network
+split g v x y z =
+    let r = g .reserved in
+    record {
+      low = splitEnds (g .low) r (far g v r) z (far g v y) x y v;
+      high = splitEnds (g .high) r (far g v x) z (far g v z) x y v;
+      cost = splitCosts (g .cost) x y z;
+      present = set (g .present) v false;
+      reserved = r;
+      edges = g .edges;
+      vertices = g .vertices;
+      remaining = g .remaining - 1;
+    }
+
+-- splitting off v with partner x, the other two in rising order
+unfoldable pub splitWith : Network → ℕ → ℕ → Network
+splitWith g v x = let others = without x (partners g v) in split g v x (getD others 0 0) (getD others 1 0)
+
+-- partner x is admissible: every cut is then crossed by at least four
+unfoldable pub admissible : Network → ℕ → ℕ → Bool
+admissible g v x = everyCut 4 (splitWith g v x)
+
+-- the partner that a step does not name
+unfoldable pub third : Network → Step → ℕ
+third g t = getD (without (t .y) (without (t .x) (partners g (t .v)))) 0 0
+
+-- the network after a step
+unfoldable pub after : Network → Step → Network
+after g t = split g (t .v) (t .x) (t .y) (third g t)
