@@ -35,11 +35,10 @@ dearest-at g d e (k ∷ l) h m = elim (ℕ-discrete e k) [
 
 module _ {g : Network} (sound : Sound g) (two : g .remaining ≡ 2) where
   -- the two vertices: the low end of the reserved edge, and the other one
-  pub v : ℕ
+  abbrev pub v : ℕ
   v = lowEnd g (g .reserved)
 
   pub v-here : here g v ≡ true
-  unfolding v
   v-here = sound .held
 
   pub o : ℕ
@@ -54,7 +53,7 @@ module _ {g : Network} (sound : Sound g) (two : g .remaining ≡ 2) where
   o≢v = another (sound .formed) (omega arith) v v-here .2
 
   pub held-v : touches g v (g .reserved) ≡ true
-  unfolding v touches
+  unfolding touches
   held-v = rw eqb-self
 
   -- a present vertex other than v is o

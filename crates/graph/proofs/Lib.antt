@@ -13,4 +13,7 @@ pub mod Endings
 pub mod Rules
 pub mod Plans
 pub mod Condition
+pub mod Picked
+pub mod Differences
+pub mod Degrees
 pub mod Examples

@@ -183,12 +183,12 @@ module _ (g : Network) where
         not-reserved = λ q. never (rw (q, eqb-self) at (and-right (here g (lowEnd g e)) (not (eqb e (g .reserved))) (w .2)));
       }
 
-  of-last : (e : ℕ) → LastEdge g e → among e (lastEdges g) ≡ true
+  pub of-last : (e : ℕ) → LastEdge g e → among e (lastEdges g) ≡ true
   unfolding lastEdges
   of-last e p =
       among-pick (g .edges) 0 (λ e. here g (lowEnd g e) && not (eqb e (g .reserved))) e (omega arith) (omega (arith, p .number)) (rw (p .not-retired, eqb-no (p .not-reserved)))
 
-  dearest-in : (d : ℕ) (l : List ℕ) → ((e : ℕ) → among e l ≡ true → leZ (costOf g e) (costOf g d) ≡ true) → dearest g d l ≡ true
+  pub dearest-in : (d : ℕ) (l : List ℕ) → ((e : ℕ) → among e l ≡ true → leZ (costOf g e) (costOf g d) ≡ true) → dearest g d l ≡ true
   unfolding dearest among
   dearest-in d [] h = refl
   dearest-in d (k ∷ l) h = rw (h k (rw eqb-self), dearest-in d l (λ e m. h e (rw (m, or-true))))

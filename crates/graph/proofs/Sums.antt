@@ -4,6 +4,7 @@ use mathlib.Core.Logic.{_≢_}
 use mathlib.Core.Bool.{Bool, true, false, not, cond, _&&_, _||_, or-true}
 use mathlib.Core.List.{List, [], _∷_}
 use Prim.Native.Nat.{ℕ, zero, suc, _+_, _*_, _≤_, _<_, _%_}
+use native.Mathlib.Numerals.{add-one}
 use native.Mathlib.Omega.{arith}
 use native.Mathlib.Nat.{add-zero, zero-add}
 use native.Mathlib.Decide.{ℕ-discrete, decLt}
@@ -17,6 +18,11 @@ pub fold-ext : {A : Type 0} (op : A → A → A) (unit : A) (n : ℕ) (f g : ℕ
 unfolding fold
 fold-ext op unit zero f g h = refl
 fold-ext op unit (suc n) f g h = ap₂ op (fold-ext op unit n f g (λ i l. h i (omega arith))) (h n (omega arith))
+
+-- one number more, as a loop counts it
+pub fold-more : {A : Type 0} (op : A → A → A) (unit : A) (n : ℕ) (f : ℕ → A) → fold op unit (n + 1) f ≡ op (fold op unit n f) (f n)
+unfolding fold
+fold-more op unit n f = rw add-one
 
 pub sum-ext : (n : ℕ) (f g : ℕ → ℕ) → ((i : ℕ) → i < n → f i ≡ g i) → sum n f ≡ sum n g
 sum-ext = fold-ext _+_ 0
@@ -173,6 +179,16 @@ each-fails (suc n) p h = go (each n p) refl (each-fails n p)
     go : (t : Bool) → each n p ≡ t → (each n p ≡ false → (i : ℕ) × (i < n) × (p i ≡ false)) → (i : ℕ) × (i < suc n) × (p i ≡ false)
     go false e f = let w = f e in (w .0, omega (arith, w .1), w .2)
     go true e f = (n, omega arith, rw e at h)
+
+pub each-more : (n : ℕ) (p : ℕ → Bool) → each n p ≡ true → p n ≡ true → each (n + 1) p ≡ true
+each-more n p below here = fold-more _&&_ true n p ∙ rw (below, here)
+
+pub each-false : (n : ℕ) (p : ℕ → Bool) (i : ℕ) → i < n → p i ≡ false → each n p ≡ false
+each-false n p i l e = go (each n p) refl
+  where
+    go : (t : Bool) → each n p ≡ t → each n p ≡ false
+    go true h = never (sym e ∙ each-at n p h i l)
+    go false h = h
 
 pub any-in : (n : ℕ) (p : ℕ → Bool) (i : ℕ) → i < n → p i ≡ true → any n p ≡ true
 unfolding fold

@@ -7,3 +7,4 @@ pub mod Plan
 pub mod Connection
 pub mod Sound
 pub mod Condition
+pub mod State

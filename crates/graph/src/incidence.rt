@@ -1,0 +1,85 @@
+// The partners at a vertex.
+ghost use mathlib.Core.Path.{_≡_};
+ghost use Prim.Native.Nat.{_≤_, _<_};
+ghost use Rattle.graph.specs.Split.{isPartner, partners};
+ghost use Rattle.graph.specs.State.{edgeLimit, firstThree, oneMore};
+ghost use Rattle.graph.specs.declared.Network.{Network};
+use crate::EDGE_LIMIT;
+use crate::Network;
+
+// How many partners a vertex has, and the first three, 0 for each that there is not.
+pub struct Partners {
+    pub count: usize,
+    pub first: usize,
+    pub second: usize,
+    pub third: usize,
+}
+
+impl Partners {
+    // One more partner.
+    fn with(mut self, e: usize) -> Partners
+        requires { ⌜ self .count < edgeLimit ⌝ }
+        ensures { λ r. ⌜ r ≡ oneMore self e ⌝ }
+    {
+        let count = self.count;
+        self.count = count + 1;
+        if count == 0 {
+            self.first = e;
+            return self;
+        }
+        if count == 1 {
+            self.second = e;
+            return self;
+        }
+        if count == 2 {
+            self.third = e;
+            return self;
+        }
+        self
+    }
+}
+
+impl Network {
+    // The partners at v, in rising order.
+    pub fn partners(self, v: u8) -> Partners
+        requires { ⌜ self .edges ≤ edgeLimit ⌝ }
+        ensures { λ r. ⌜ r ≡ firstThree (partners self v) ⌝ }
+    {
+        let edges = self.edges;
+        let reserved = self.reserved;
+        let mut found = Partners {
+            count: 0,
+            first: 0,
+            second: 0,
+            third: 0,
+        };
+        let mut e = 0;
+        while e < edges {
+            if is_partner(&self.low, &self.high, reserved, e, v) {
+                found = found.with(e);
+            }
+            e += 1;
+        }
+        found
+    }
+}
+
+// Whether edge e is a partner at v in any network with these columns of ends and this reserved edge.
+fn is_partner<'a>(
+    low: &'a [u8; EDGE_LIMIT],
+    high: &'a [u8; EDGE_LIMIT],
+    reserved: usize,
+    e: usize,
+    v: u8,
+) -> bool
+    requires { ⌜ e < edgeLimit ⌝ }
+    ensures { λ r. ⌜ ((g : Network) → g .low ≡ now (low .entry) → g .high ≡ now (high .entry) → g .reserved ≡ reserved → r ≡ isPartner g v e) ⌝ }
+{
+    if e == reserved {
+        return false;
+    }
+    if low[e] == v {
+        return true;
+    }
+    high[e] == v
+}
