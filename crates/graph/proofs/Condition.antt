@@ -15,7 +15,7 @@ use Rattle.graph.specs.Network.{lowEnd, highEnd, costOf, here, degree, k
 use Rattle.graph.specs.Cut.{EveryCut, everyCut, fourEach, networkRefusal}
 use Rattle.graph.specs.Split.{split, third, after}
 use Rattle.graph.specs.Chain.{stepRefusal, endRefusal, endKept, lift, Verdict, refused, keeps, liftVerdict, unless, check, StepByRule, ByRules, ending, step, Leads, stays, goes}
-use Rattle.graph.specs.Plan.{chosenStep, chosenDrop, planSteps, planDrop}
+use Rattle.graph.specs.Plan.{chosenStep, chosenDrop, planSteps, planDrop, planKept}
 use Rattle.graph.specs.Sound.{Formed, Sound, Fresh, weight}
 use Rattle.graph.specs.Condition.{Good, Passes, Condition}
 use Rattle.graph.specs.declared.Network.{Network}
@@ -111,16 +111,16 @@ passes-good (t ∷ ts) {g} sound d K h =
     let p = stepped sound two t r in
     rw (← w .marks-are) (good-step sound t (w .later) r p (passes-good ts (sound-step sound t p) d (w .later) (w .later-keeps)))
 
--- ── the planner's chain passes ──
-pub plan-ruled : (n : ℕ) {g : Network} → Sound g → g .remaining ≡ 2 + n → ByRules g (planSteps n g) (planDrop n g)
-unfolding planSteps planDrop
-plan-ruled zero {g} sound e = ending e (ending-ruled g (chosenDrop g) (chosen-drop-passes sound e))
-plan-ruled (suc n) {g} sound e =
+-- ── the planner's chain passes, and keeps what the plan keeps ──
+pub plan-checked : (n : ℕ) {g : Network} → Sound g → g .remaining ≡ 2 + n → check g (planSteps n g) (planDrop n g) ≡ keeps (planKept n g)
+unfolding planSteps planDrop planKept check unless liftVerdict
+plan-checked zero {g} sound e = rw (eq-eqb (g .remaining) 2 e, chosen-drop-passes sound e)
+plan-checked (suc n) {g} sound e =
     let t = chosenStep g in
     let two : 2 ≤ g .remaining = omega arith in
-    let r = chosen-ruled sound two in
     let more : 2 < g .remaining = omega arith in
-    step more r (plan-ruled n (sound-step sound t (stepped sound two t r)) (fewer e))
+    let r = chosen-ruled sound two in
+    rw (lt-ltb 2 (g .remaining) more, ruled-step g t r, plan-checked n (sound-step sound t (stepped sound two t r)) (fewer e))
   where
     fewer : g .remaining ≡ 2 + suc n → after g (chosenStep g) .remaining ≡ 2 + n
     fewer e = unfold after split in omega arith
@@ -160,7 +160,7 @@ condition {g} fresh two h =
     record {
       rules = λ ts d. (λ p. passes-ruled ts sound d (p .0) (p .1), ruled-passes);
       good = λ ts d K. passes-good ts sound d K;
-      exists = (planSteps n g, planDrop n g, ruled-passes (plan-ruled n sound (omega (arith, fresh-remaining fresh))));
+      exists = (planSteps n g, planDrop n g, (planKept n g, plan-checked n sound (omega (arith, fresh-remaining fresh))));
     }
 
 -- ── working costs ──

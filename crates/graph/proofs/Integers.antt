@@ -121,17 +121,23 @@ pub ≤ℤ-is : {a b : ℤ} → a ≤ℤ b → P a + N b ≤ N a + P b
 pub is-≤ℤ : {a b : ℤ} → P a + N b ≤ N a + P b → a ≤ℤ b
 is-≤ℤ {a} {b} h = record { le = true-T (le-test a b h) }
 
--- the size of a difference is at most the sum of the sizes
-pub size-minus : (a b : ℤ) → natAbs (a -ℤ b) ≤ natAbs a + natAbs b
-size-minus a b = omega (arith, size a, size b, least (a -ℤ b) (P a + N b) (N a + P b) (minus a b))
-  where
-    size : (a : ℤ) → natAbs a ≡ P a + N a
-    size (pos n) = unfold P N in omega arith
-    size (negsuc n) = unfold P N in omega arith
+-- ── sizes ──
+size-is : (a : ℤ) → natAbs a ≡ P a + N a
+unfolding P N
+size-is (pos n) = omega arith
+size-is (negsuc n) = omega arith
 
-    least : (a : ℤ) (p q : ℕ) → P a + q ≡ N a + p → natAbs a ≤ p + q
-    least (pos n) p q h = unfold P N in omega arith
-    least (negsuc n) p q h = unfold P N in omega arith
+-- an integer p - q has at most the size p + q
+size-least : (a : ℤ) (p q : ℕ) → P a + q ≡ N a + p → natAbs a ≤ p + q
+unfolding P N
+size-least (pos n) p q h = omega arith
+size-least (negsuc n) p q h = omega arith
+
+pub size-minus : (a b : ℤ) → natAbs (a -ℤ b) ≤ natAbs a + natAbs b
+size-minus a b = omega (arith, size-is a, size-is b, size-least (a -ℤ b) (P a + N b) (N a + P b) (minus a b))
+
+pub size-plus : (a b : ℤ) → natAbs (a +ℤ b) ≤ natAbs a + natAbs b
+size-plus a b = omega (arith, size-is a, size-is b, size-least (a +ℤ b) (P a + P b) (N a + N b) (plus a b))
 
 -- ── sums ──
 
@@ -157,3 +163,9 @@ pub sumℤ-zeros : (n : ℕ) → sumℤ n (λ i. pos 0) ≡ pos 0
 unfolding fold
 sumℤ-zeros zero = refl
 sumℤ-zeros (suc n) = rw (sumℤ-zeros n)
+
+-- the size of a sum is at most the sum of the sizes
+pub sumℤ-size : (n : ℕ) (f : ℕ → ℤ) → natAbs (sumℤ n f) ≤ sum n (λ i. natAbs (f i))
+unfolding fold
+sumℤ-size zero f = omega arith
+sumℤ-size (suc n) f = omega (arith, sumℤ-size n f, size-plus (sumℤ n f) (f n))

@@ -22,7 +22,7 @@ use Rattle.graph.proofs.Partners.{star, first-others, second-others, th
 use Rattle.graph.proofs.Splitting.{split-here, far-here, joins-after, crossings-here}
 
 -- ── crossing counts are symmetric and submodular ──
-crossings-not : (g : Network) (S : Side) → crossings g (λ v. not (S v)) ≡ crossings g S
+pub crossings-not : (g : Network) (S : Side) → crossings g (λ v. not (S v)) ≡ crossings g S
 unfolding crossingsOf crosses
 crossings-not g S =
     sum-ext (g .edges) (crosses g (λ v. not (S v))) (crosses g S) (λ e l. flip (S (lowEnd g e)) (S (highEnd g e)))

@@ -57,6 +57,21 @@ unfolding fold
 sum-even zero f h = refl
 sum-even (suc n) f h = omega (arith, sum-even n f (λ i l. h i (omega arith)), h n (omega arith))
 
+-- fewer terms have a lesser sum
+pub sum-fewer : (k n : ℕ) (f : ℕ → ℕ) → k ≤ n → sum k f ≤ sum n f
+unfolding fold
+sum-fewer k zero f h = let e : k ≡ 0 = omega arith in rw e (omega arith)
+sum-fewer k (suc n) f h = elim (ℕ-discrete k (suc n)) [
+  | yes e ↦ rw e (omega arith)
+  | no ne ↦ omega (arith, sum-fewer k n f (omega arith))
+]
+
+-- a sum over two ranges, one behind the other
+pub sum-join : (m n : ℕ) (f : ℕ → ℕ) → sum (m + n) f ≡ sum m f + sum n (λ i. f (m + i))
+unfolding fold
+sum-join m zero f = simp add-zero
+sum-join m (suc n) f = let e : m + suc n ≡ suc (m + n) = omega arith in rw e (omega (arith, sum-join m n f))
+
 -- a sum of zero has no other terms, and a positive one has a positive term
 pub sum-zero-at : (n : ℕ) (f : ℕ → ℕ) → sum n f ≡ 0 → (i : ℕ) → i < n → f i ≡ 0
 unfolding fold

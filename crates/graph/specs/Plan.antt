@@ -1,13 +1,13 @@
 -- The planner's choices, and the plan.
-use mathlib.Core.Bool.{cond}
+use mathlib.Core.Bool.{Bool, cond}
 use mathlib.Core.List.{List, [], _∷_}
 use Prim.Native.Nat.{ℕ, zero, suc, _-_, max}
 use lib.ListN.{getD}
 use lib.Signed.{leZ, ltZ}
 use Rattle.graph.specs.Fold.{only}
 use Rattle.graph.specs.Network.{lowEnd, highEnd, costOf}
-use Rattle.graph.specs.Split.{partners, admissible, after}
-use Rattle.graph.specs.Chain.{lastEdges}
+use Rattle.graph.specs.Split.{partners, admissible, third, after}
+use Rattle.graph.specs.Chain.{lastEdges, endKept, lift}
 use Rattle.graph.specs.declared.Network.{Network}
 use Rattle.graph.specs.declared.Step.{Step}
 
@@ -44,3 +44,8 @@ planSteps (suc n) g = let t = chosenStep g in t ∷ planSteps n (after g t)
 unfoldable pub planDrop : ℕ → Network → ℕ
 planDrop zero g = chosenDrop g
 planDrop (suc n) g = planDrop n (after g (chosenStep g))
+
+-- and the edges that it keeps
+unfoldable pub planKept : ℕ → Network → List Bool
+planKept zero g = endKept g (chosenDrop g)
+planKept (suc n) g = let t = chosenStep g in lift (t .x) (t .y) (third g t) (planKept n (after g t))

@@ -1,0 +1,117 @@
+-- `relax` meets its contract: an arc that leads on gives its head the next number, by the laws of a search.
+use native.Mathlib.Omega.{arith}
+use borrow.Author.Needs.{needs}
+use Rattle.flow.specs.Arcs.{reverse}
+use Rattle.flow.proofs.Reaching.{LeadsOn, number-left, leads-on}
+use Rattle.flow.proofs.search.relax.Statement.{statement}
+use Rattle.flow.proofs.search.relax.Tie as tie
+
+-- where all tests have passed, the arc leads on
+found : (c : tie.Else3)
+    → (let given = c .before .before .before .before .before .before .before .before .args in
+    LeadsOn (given .ends .now) (given .residual .now) (given .order .now) (given .trail .now) (given .clock) (given .arc))
+found c = record {
+  tree = c .before .before .before .before .before .before .before .before .pre .1;
+  arc = c .before .before .before .before .before .before .before .before .pre .0;
+  vertex = omega (arith, c .before .before .shared-slice-known3 .given (reverse (c .before .before .before .before .before .before .before .before .args .arc)));
+  carries = omega arith;
+  from = omega arith;
+  new = c .if3 .left;
+}
+
+shared-slice-read-if1 : tie.Need-shared-slice-read-if1
+shared-slice-read-if1 c = search needs
+
+returns : tie.Need-returns
+returns c = search needs
+
+shared-slice-read-from : tie.Need-shared-slice-read-from
+shared-slice-read-from c = search needs
+
+cast-from : tie.Need-cast-from
+cast-from c = omega (arith, c .shared-slice-known2 .given (c .before .before .before .args .arc))
+
+mul-if2 : tie.Need-mul-if2
+mul-if2 c = omega (arith, c .shared-slice-known2 .given (c .before .before .before .args .arc))
+
+slice-read-if2 : tie.Need-slice-read-if2
+slice-read-if2 c = omega (arith, c .before .shared-slice-known2 .given (c .before .before .before .before .args .arc))
+
+returns-2 : tie.Need-returns-2
+returns-2 c = search needs
+
+add-to : tie.Need-add-to
+add-to c = search needs
+
+shared-slice-read-to : tie.Need-shared-slice-read-to
+shared-slice-read-to c = search needs
+
+cast-to : tie.Need-cast-to
+cast-to c = omega (arith, c .shared-slice-known3 .given (reverse (c .before .before .before .before .before .before .args .arc)))
+
+mul-if3 : tie.Need-mul-if3
+mul-if3 c = omega (arith, c .shared-slice-known3 .given (reverse (c .before .before .before .before .before .before .args .arc)))
+
+slice-read-if3 : tie.Need-slice-read-if3
+slice-read-if3 c = omega (arith, c .before .shared-slice-known3 .given (reverse (c .before .before .before .before .before .before .before .args .arc)))
+
+returns-3 : tie.Need-returns-3
+returns-3 c = search needs
+
+add-next : tie.Need-add-next
+add-next c = omega (arith, number-left (found c))
+
+cast-order : tie.Need-cast-order
+cast-order c = omega (arith, number-left (found c))
+
+mul-order : tie.Need-mul-order
+mul-order c = omega (arith, found c .vertex)
+
+slice-write-order : tie.Need-slice-write-order
+slice-write-order c = omega (arith, found c .vertex)
+
+cast-trail : tie.Need-cast-trail
+cast-trail c = search needs
+
+mul-trail : tie.Need-mul-trail
+mul-trail c = omega (arith, number-left (found c))
+
+slice-write-trail : tie.Need-slice-write-trail
+slice-write-trail c = omega (arith, number-left (found c))
+
+same-length : tie.Need-same-length
+same-length c = search needs
+
+same-length-2 : tie.Need-same-length-2
+same-length-2 c = search needs
+
+returns-4 : tie.Need-returns-4
+returns-4 c = leads-on (found c)
+
+pub relax-spec : {M : Type 1} → statement M
+relax-spec =
+    tie.close
+    (tie.spec
+    shared-slice-read-if1
+    returns
+    shared-slice-read-from
+    cast-from
+    mul-if2
+    slice-read-if2
+    returns-2
+    add-to
+    shared-slice-read-to
+    cast-to
+    mul-if3
+    slice-read-if3
+    returns-3
+    add-next
+    cast-order
+    mul-order
+    slice-write-order
+    cast-trail
+    mul-trail
+    slice-write-trail
+    same-length
+    same-length-2
+    returns-4)

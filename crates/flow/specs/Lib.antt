@@ -1,0 +1,6 @@
+pub mod Apart
+pub mod Anchor
+pub mod Arcs
+pub mod Search
+pub mod Flow
+pub mod Partnered
