@@ -1,0 +1,76 @@
+-- A service's reply and its buffers afterwards, by the answer that is due.
+-- Assumes nothing.
+use mathlib.Core.Path.{_≡_, refl}
+use mathlib.Core.Bool.{Bool, true, false}
+use mathlib.Core.List.{List}
+use Prim.Native.Nat.{ℕ, _≤_, _<_}
+use native.Mathlib.Omega.{arith}
+use lib.ListN.{length}
+use borrow.Author.Tests.{le-leb, lt-leb}
+use Rattle.frame.specs.Answer.{Answer, refused, answer, andThen, given, filled, over, roomIn, replied, replyOf, after, SHORT}
+use Rattle.frame.specs.declared.reply.Reply.the-variants.{Refused, Done}
+
+-- an answer made of another
+module _ {M N : Type 0} (a : Answer M) (f : M → Answer N) where
+  pub then-refused : (k : ℕ) → a ≡ refused k → andThen a f ≡ refused k
+  unfolding andThen
+  then-refused k e = rw e
+
+  pub then-answer : (m : M) → a ≡ answer m → andThen a f ≡ f m
+  unfolding andThen
+  then-answer m e = rw e
+
+-- any number of buffers: refused, all of them long enough, one of them short
+module _ {M : Type 0} (room : M → Bool) (a : Answer M) where
+  pub given-refused : (k : ℕ) → a ≡ refused k → given room a ≡ refused k
+  unfolding given
+  given-refused k e = rw e
+
+  pub given-fits : (m : M) → a ≡ answer m → room m ≡ true → given room a ≡ answer m
+  unfolding given
+  given-fits m e h = rw (e, h)
+
+  pub given-short : (m : M) → a ≡ answer m → room m ≡ false → given room a ≡ refused SHORT
+  unfolding given
+  given-short m e h = rw (e, h)
+
+module _ {M A : Type 0} (part : M → List A) (a : Answer M) (old : List A) where
+  pub filled-refused : (k : ℕ) → a ≡ refused k → filled part a old ≡ old
+  unfolding filled
+  filled-refused k e = rw e
+
+  pub filled-answer : (m : M) → a ≡ answer m → filled part a old ≡ over (part m) old
+  unfolding filled
+  filled-answer m e = rw e
+
+-- one buffer
+module _ {A : Type 0} (a : Answer (List A)) (old : List A) where
+  pub refuses : (k : ℕ) → a ≡ refused k → (Refused k ≡ replyOf a old) × (old ≡ after a old)
+  unfolding replyOf after given replied filled
+  refuses k e = (rw e, rw e)
+
+  pub fits : (xs : List A) → a ≡ answer xs → length xs ≤ length old → (Done (length xs) ≡ replyOf a old) × (over xs old ≡ after a old)
+  unfolding replyOf after given replied filled roomIn
+  fits xs e h = (rw (e, le-leb (length xs) (length old) h), rw (e, le-leb (length xs) (length old) h))
+
+  pub short : (xs : List A) → a ≡ answer xs → length old < length xs → (Refused SHORT ≡ replyOf a old) × (old ≡ after a old)
+  unfolding replyOf after given replied filled roomIn
+  short xs e h = (rw (e, lt-leb (length xs) (length old) h), rw (e, lt-leb (length xs) (length old) h))
+
+-- what a reply says of the answer, as a caller finds it
+module _ {A : Type 0} (a : Answer (List A)) where
+  pub replied-refused : (k : ℕ) → Refused k ≡ replied a → a ≡ refused k
+  unfolding replied
+  replied-refused k e = go a refl e
+    where
+      go : (b : Answer (List A)) → a ≡ b → Refused k ≡ replied b → a ≡ refused k
+      go (refused j) p q = cc
+      go (answer xs) p q = let z : _≡_ {A = ℕ} 0 1 = cc in absurd (omega arith)
+
+  pub replied-done : (n : ℕ) → Done n ≡ replied a → (xs : List A) × (a ≡ answer xs) × (n ≡ length xs)
+  unfolding replied
+  replied-done n e = go a refl e
+    where
+      go : (b : Answer (List A)) → a ≡ b → Done n ≡ replied b → (xs : List A) × (a ≡ answer xs) × (n ≡ length xs)
+      go (refused j) p q = let z : _≡_ {A = ℕ} 0 1 = cc in absurd (omega arith)
+      go (answer xs) p q = (xs, p, cc)

@@ -1,0 +1,16 @@
+pub mod Answers
+pub mod Below
+pub mod Columns
+pub mod Examples
+pub mod Judging
+pub mod Lines
+pub mod Named
+pub mod Parts
+pub mod Passes
+pub mod Rows
+pub mod Runs
+pub mod Signs
+pub mod Spelling
+pub mod Values
+pub mod Whole
+pub mod Writing

@@ -1,0 +1,138 @@
+-- The laws of the table: the places of a line follow from the widths of its fields, and what holds of every row.
+-- Assumes nothing.
+use mathlib.Core.Path.{_≡_, refl, _∙_, ap}
+use mathlib.Core.Bool.{Bool}
+use mathlib.Core.List.{List, [], _∷_, map}
+use Prim.Native.Nat.{ℕ, zero, suc, _+_, _*_, _-_, _≤_, _<_}
+use native.Mathlib.Omega.{arith}
+use native.Mathlib.Numerals.{add-one}
+use native.Mathlib.Decide.{decLt}
+use lib.Dec.{leb, ltb}
+use lib.ListN.{length, take, drop, getD, length-map, drop-of-length-le, List·getD-map, List·getD-eq-default}
+use lib.Seq.{drop-cons, take-all, take-nil}
+use borrow.Author.Tests.{ltb-true, leb-true}
+use Rattle.frame.specs.Table.{table, rows, fields, columns, kindOf, padded, bytesOf, total, placeOf, entryOf, startOf, digitsOf, widths}
+use Rattle.frame.specs.Digits.{upTo}
+use Rattle.frame.proofs.Below.{below², up-to-at}
+
+-- sums
+total-next : (ns : List ℕ) (k : ℕ) → total (take (suc k) ns) ≡ total (take k ns) + getD ns k 0
+unfolding total
+total-next [] k = rw take-nil
+total-next (n ∷ ns) zero = omega arith
+total-next (n ∷ ns) (suc k) = omega (arith, total-next ns k)
+
+total-take : (ns : List ℕ) (k : ℕ) → total (take k ns) ≤ total ns
+unfolding total
+total-take ns zero = omega arith
+total-take [] (suc k) = omega arith
+total-take (n ∷ ns) (suc k) = omega (arith, total-take ns k)
+
+total-double : (ns : List ℕ) → total (map (λ n. 2 * n) ns) ≡ 2 * total ns
+unfolding total
+total-double [] = refl
+total-double (n ∷ ns) = omega (arith, total-double ns)
+
+length-padded : (k : ℕ) (ns : List ℕ) → length (padded k ns) ≡ k
+unfolding padded
+length-padded zero ns = refl
+length-padded (suc k) [] = ap suc (length-padded k [])
+length-padded (suc k) (n ∷ ns) = ap suc (length-padded k ns)
+
+-- the places of a line
+module _ (row : ℕ) where
+  pub length-bytes : length (bytesOf row) ≡ fields
+  unfolding bytesOf
+  length-bytes = length-padded fields (getD table row (0, []) .1)
+
+  pub length-widths : length (widths row) ≡ fields
+  unfolding widths
+  length-widths = length-map (bytesOf row) (λ n. 2 * n) ∙ length-bytes
+
+  pub start-first : startOf row 0 ≡ 2
+  unfolding startOf placeOf total
+  start-first = refl
+
+  pub start-next : (k : ℕ) → startOf row (k + 1) ≡ startOf row k + digitsOf row k
+  unfolding startOf placeOf digitsOf
+  start-next k = rw add-one (omega (arith, total-next (bytesOf row) k))
+
+  pub start-end : startOf row fields ≡ 2 + total (widths row)
+  unfolding startOf placeOf widths
+  start-end =
+      omega
+      (arith, ap total (take-all fields (bytesOf row) (omega (arith, length-bytes))), total-double (bytesOf row))
+
+  pub start-within : (k : ℕ) → startOf row k ≤ startOf row fields
+  unfolding startOf placeOf widths
+  start-within k = omega (arith, total-take (bytesOf row) k, total-double (bytesOf row), start-end)
+
+  pub widths-next : (k : ℕ) → k < fields → drop k (widths row) ≡ digitsOf row k ∷ drop (k + 1) (widths row)
+  unfolding digitsOf widths
+  widths-next k h =
+      let l : k < length (map (λ n. 2 * n) (bytesOf row)) = omega (arith, length-map (bytesOf row) (λ n. 2 * n), length-bytes) in
+      rw (add-one, ← List·getD-map (λ n. 2 * n) (bytesOf row) k 0) (drop-cons (map (λ n. 2 * n) (bytesOf row)) k 0 l)
+
+  pub widths-end : (k : ℕ) → fields ≤ k → drop k (widths row) ≡ []
+  widths-end k h = drop-of-length-le (widths row) {i = k} (omega (arith, length-widths))
+
+-- what holds of every row, by a test at each entry
+small : ℕ → ℕ → Bool
+small row column = ltb (entryOf row column) 256
+
+narrow : ℕ → ℕ → Bool
+narrow row k = leb (digitsOf row k) 16
+
+module _ (row : ℕ) (h : row < rows) where
+  pub entry-small : (column : ℕ) → column < columns → entryOf row column < 256
+  unfolding small entryOf kindOf placeOf bytesOf padded total
+  entry-small column l = ltb-true _ _ (below² small rows columns refl row column h l)
+
+  pub digits-narrow : (k : ℕ) → k < fields → digitsOf row k ≤ 16
+  unfolding narrow digitsOf bytesOf padded
+  digits-narrow k l = leb-true _ _ (below² narrow rows fields refl row k h l)
+
+  pub start-small : (k : ℕ) → k ≤ fields → startOf row k < 512
+  unfolding startOf entryOf
+  start-small k l = omega (arith, entry-small (suc k) (omega arith))
+
+-- a kind is one byte; a row that the table does not have has kind 0
+pub kind-small : (row : ℕ) → kindOf row < 256
+unfolding entryOf kindOf
+kind-small row =
+    elim (decLt row rows) [
+      | yes l ↦ entry-small row l 0 (omega arith)
+      | no g ↦ rw (List·getD-eq-default table (0, []) {n = row} (omega arith)) (omega arith)
+    ]
+
+-- the places at which a field starts and ends
+pub record Field (row k start end : ℕ) : Type 0 where
+  pub upward : start ≤ end
+  pub inside : end ≤ startOf row fields
+  pub count : end - start ≡ digitsOf row k
+  pub narrow : digitsOf row k ≤ 16
+
+pub field-at : (row k start end : ℕ) → row < rows → k < fields → start ≡ startOf row k → end ≡ startOf row (k + 1) → Field row k start end
+field-at row k start end h l p q =
+    let n = start-next row k in
+    record {
+      upward = omega arith;
+      inside = omega (arith, start-within row (k + 1));
+      count = omega arith;
+      narrow = digits-narrow row h k l;
+    }
+
+pub start-entry : (row k : ℕ) → 2 * entryOf row (k + 1) ≡ startOf row k
+unfolding startOf entryOf
+start-entry row k = rw add-one
+
+-- the whole table as the code lays it out
+unfoldable pub laidOut : List (List ℕ)
+unfolding upTo entryOf kindOf placeOf bytesOf padded total
+laidOut = upTo rows (λ row. upTo columns (entryOf row))
+
+pub laid-entry : (row column : ℕ) → row < rows → column < columns → getD (getD laidOut row []) column 0 ≡ entryOf row column
+unfolding laidOut
+laid-entry row column h l =
+    ap (λ (r : List ℕ). getD r column 0) (up-to-at rows (λ i. upTo columns (entryOf i)) [] row h)
+    ∙ up-to-at columns (entryOf row) 0 column l

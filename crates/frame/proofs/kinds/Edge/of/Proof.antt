@@ -1,0 +1,26 @@
+-- `frame::kinds::Edge::of` meets its contract.
+-- Assumes nothing.
+use lib.Dec.{lit<}
+use mir.Facts.{toZ-ofZ}
+use borrow.Author.Needs.{needs}
+use Rattle.frame.specs.Table.{EDGE, padded, bytesOf, digitsOf}
+use Rattle.frame.specs.Kinds.{costDigits}
+use Rattle.frame.proofs.Rows.{digits-narrow}
+use Rattle.frame.proofs.Named.{fits-at}
+use Rattle.frame.proofs.kinds.Edge.of.Statement.{statement}
+use Rattle.frame.proofs.kinds.Edge.of.Tie as tie
+
+digits-of-requires : tie.Need-digits-of-requires
+digits-of-requires c κs = search needs
+
+signed-of-requires : tie.Need-signed-of-requires
+unfolding digitsOf bytesOf padded
+signed-of-requires c κs =
+    rw (c .digits-of .ensures) (lit< tt, digits-narrow EDGE (lit< tt) 3 (lit< tt), fits-at EDGE (c .before .args .f) (c .before .pre) 3 (lit< tt))
+
+returns : tie.Need-returns
+unfolding costDigits
+returns c = rw (toZ-ofZ (record { sfits = c .signed-of .ok }), c .signed-of .ensures, c .before .digits-of .ensures)
+
+pub of-spec : {M : Type 1} → statement M
+of-spec = tie.close (tie.spec digits-of-requires signed-of-requires returns)

@@ -1,0 +1,84 @@
+-- `frame::line::line_at` meets its contract.
+-- Assumes nothing.
+use mathlib.Core.Path.{sym, _∙_}
+use native.Mathlib.Omega.{arith}
+use lib.ListN.{length-take}
+use Rattle.frame.proofs.Judging.{line-short, line-no-feed, line-no-number, line-no-kind, line-fields}
+use Rattle.frame.proofs.Rows.{start-end}
+use borrow.Author.Needs.{needs}
+use Rattle.frame.proofs.line.line_at.Statement.{statement}
+use Rattle.frame.proofs.line.line_at.Tie as tie
+
+start-of-requires : tie.Need-start-of-requires
+start-of-requires c κs = search needs
+
+returns : tie.Need-returns
+returns c =
+    let s = c .before .before .before in
+    line-short (s .args .row) (s .args .line .now) (s .args .next) _ (c .before .start-of .ensures) (c .if1 .taken)
+
+shared-slice-read-if2 : tie.Need-shared-slice-read-if2
+shared-slice-read-if2 c = search needs
+
+returns-2 : tie.Need-returns-2
+returns-2 c =
+    let s = c .before .before .before .before .before in
+    line-no-feed (s .args .row) (s .args .line .now) (s .args .next) _ (c .before .before .before .start-of .ensures) (c .if2 .taken)
+
+slice-aggregate-read-number : tie.Need-slice-aggregate-read-number
+slice-aggregate-read-number c =
+    let s = c .before .before .before .before .before .before in
+    omega (arith, start-end (s .args .row), c .before .before .before .before .start-of .ensures, length-take 2 (s .args .line .now))
+
+read-number-requires : tie.Need-read-number-requires
+read-number-requires c κs = (simp length-take (omega arith), c .before .before .before .before .before .before .pre .1)
+
+enum-known-kind : tie.Need-enum-known-kind
+enum-known-kind c = search needs
+
+enum-told : tie.Need-enum-told
+enum-told c = search needs
+
+returns-3 : tie.Need-returns-3
+returns-3 c =
+    let s = c .before .before .before .before .before .before .before .before .before in
+    line-no-number (s .args .row) (s .args .line .now) (s .args .next) (sym (c .enum-told .given .1) ∙ c .before .before .read-number .ensures)
+
+kind-of-requires : tie.Need-kind-of-requires
+kind-of-requires c κs = search needs
+
+returns-4 : tie.Need-returns-4
+returns-4 c =
+    let s = c .before .before .before .before .before .before .before .before .before .before .before .before in
+    let g = c .before .before .before .kind .given in
+    line-no-kind (s .args .row) (s .args .line .now) (s .args .next) (g .0 .0) (sym (g .1) ∙ c .before .before .before .before .before .read-number .ensures)
+    (λ x. c .if3 .taken (x ∙ sym (c .before .kind-of .ensures)))
+
+read-fields-requires : tie.Need-read-fields-requires
+read-fields-requires c κs = search needs
+
+returns-5 : tie.Need-returns-5
+returns-5 c =
+    let s = c .before .before .before .before .before .before .before .before .before .before .before .before .before in
+    let g = c .before .before .before .before .kind .given in
+    c .read-fields .ensures
+    ∙ line-fields (s .args .row) (s .args .line .now) (s .args .next) (g .0 .0) (sym (g .1) ∙ c .before .before .before .before .before .before .read-number .ensures)
+    _ (c .before .before .before .before .before .before .before .before .before .before .before .start-of .ensures) (c .before .before .before .before .before .before .before .before .before .before .if1 .left) (c .before .before .before .before .before .before .before .before .if2 .left) (c .before .if3 .left ∙ c .before .before .kind-of .ensures)
+
+pub line-at-spec : {M : Type 1} → statement M
+line-at-spec =
+    tie.close
+    (tie.spec
+    start-of-requires
+    returns
+    shared-slice-read-if2
+    returns-2
+    slice-aggregate-read-number
+    read-number-requires
+    enum-known-kind
+    enum-told
+    returns-3
+    kind-of-requires
+    returns-4
+    read-fields-requires
+    returns-5)

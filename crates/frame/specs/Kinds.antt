@@ -1,0 +1,75 @@
+-- The frames of each kind with their fields by name, and the fields as a line spells them.
+use mathlib.Core.List.{[], _∷_}
+use Prim.Native.Nat.{ℕ}
+use Rattle.frame.specs.Table.{EDGE, COSTS, digitsOf}
+use Rattle.frame.specs.Line.{fieldsFrom}
+use Rattle.frame.specs.Sign.{signedOf, unsignedOf}
+use Rattle.frame.specs.declared.line.Fields.{Fields}
+use Rattle.frame.specs.declared.kinds.Head.{Head}
+use Rattle.frame.specs.declared.kinds.Edge.{Edge}
+use Rattle.frame.specs.declared.kinds.Step.{Step}
+use Rattle.frame.specs.declared.kinds.Dropped.{Dropped}
+use Rattle.frame.specs.declared.kinds.Kept.{Kept}
+use Rattle.frame.specs.declared.kinds.Costs.{Costs}
+use Rattle.frame.specs.declared.kinds.Refusal.{Refusal}
+
+-- kind 01: n and the reserved cable
+abbrev pub headOf : Fields → Head
+headOf f = record { vertices = f .first; reserved = f .second }
+
+abbrev pub ofHead : Head → Fields
+ofHead h = fieldsFrom (h .vertices ∷ h .reserved ∷ [])
+
+-- how many digits the signed fields have: the cost of kind 02, and the two of kind 06
+unfoldable pub costDigits : ℕ
+costDigits = digitsOf EDGE 3
+
+unfoldable pub keptDigits : ℕ
+keptDigits = digitsOf COSTS 0
+
+unfoldable pub unreservedDigits : ℕ
+unreservedDigits = digitsOf COSTS 1
+
+-- kind 02: a cable, its lower and its higher end, its cost
+abbrev pub edgeOf : Fields → Edge
+edgeOf f =
+    record { number = f .first; lower = f .second; higher = f .third; cost = signedOf costDigits (f .fourth) }
+
+abbrev pub ofEdge : Edge → Fields
+ofEdge e = fieldsFrom (e .number ∷ e .lower ∷ e .higher ∷ unsignedOf costDigits (e .cost) ∷ [])
+
+-- kind 03: v, x and y
+abbrev pub stepOf : Fields → Step
+stepOf f = record { v = f .first; x = f .second; y = f .third }
+
+abbrev pub ofStep : Step → Fields
+ofStep s = fieldsFrom (s .v ∷ s .x ∷ s .y ∷ [])
+
+-- kind 04: the dropped cable
+abbrev pub droppedOf : Fields → Dropped
+droppedOf f = record { edge = f .first }
+
+abbrev pub ofDropped : Dropped → Fields
+ofDropped d = fieldsFrom (d .edge ∷ [])
+
+-- kind 05: a kept cable
+abbrev pub keptOf : Fields → Kept
+keptOf f = record { edge = f .first }
+
+abbrev pub ofKept : Kept → Fields
+ofKept k = fieldsFrom (k .edge ∷ [])
+
+-- kind 06: the kept cost, and the cost of all cables but the reserved one
+abbrev pub costsOf : Fields → Costs
+costsOf f =
+    record { kept = signedOf keptDigits (f .first); unreserved = signedOf unreservedDigits (f .second) }
+
+abbrev pub ofCosts : Costs → Fields
+ofCosts c = fieldsFrom (unsignedOf keptDigits (c .kept) ∷ unsignedOf unreservedDigits (c .unreserved) ∷ [])
+
+-- kind 0f: a refusal
+abbrev pub refusalOf : Fields → Refusal
+refusalOf f = record { number = f .first }
+
+abbrev pub ofRefusal : Refusal → Fields
+ofRefusal r = fieldsFrom (r .number ∷ [])

@@ -1,0 +1,207 @@
+// The frames of each kind, with their fields by name.
+use super::line::ABSENT;
+use super::line::Fields;
+use super::sign::signed_of;
+use super::sign::unsigned_of;
+use super::table::COSTS;
+use super::table::EDGE;
+use super::table::digits_of;
+ghost use mathlib.Core.Path.{_≡_};
+ghost use Prim.Native.Nat.{_*_, _^_, _<_};
+ghost use lib.Signed.{mag};
+ghost use Rattle.frame.specs.Table.{EDGE, COSTS};
+ghost use Rattle.frame.specs.Line.{Fits};
+ghost use Rattle.frame.specs.Kinds.{headOf, ofHead, edgeOf, ofEdge, costDigits, stepOf, ofStep, droppedOf, ofDropped, keptOf, ofKept, costsOf, ofCosts, refusalOf, ofRefusal};
+
+// Kind 01: how many vertices a network has, and its reserved edge.
+pub struct Head {
+    pub vertices: u64,
+    pub reserved: u64,
+}
+
+// Kind 02: an edge, its two ends and its cost.
+pub struct Edge {
+    pub number: u64,
+    pub lower: u64,
+    pub higher: u64,
+    pub cost: i64,
+}
+
+// Kind 03: a step, at v with x and y.
+pub struct Step {
+    pub v: u64,
+    pub x: u64,
+    pub y: u64,
+}
+
+// Kind 04: the edge that the ending drops.
+pub struct Dropped {
+    pub edge: u64,
+}
+
+// Kind 05: a kept edge.
+pub struct Kept {
+    pub edge: u64,
+}
+
+// Kind 06: the cost of the kept edges, and of all edges but the reserved one.
+pub struct Costs {
+    pub kept: i64,
+    pub unreserved: i64,
+}
+
+// Kind 0f: a refusal.
+pub struct Refusal {
+    pub number: u64,
+}
+
+// The places of signed fields among a frame's fields.
+const EDGE_COST: usize = 3;
+
+const COSTS_KEPT: usize = 0;
+
+const COSTS_UNRESERVED: usize = 1;
+
+impl Head {
+    pub fn of(f: Fields) -> Self
+        ensures { λ r. ⌜ r ≡ headOf f ⌝ }
+    {
+        Head {
+            vertices: f.first,
+            reserved: f.second,
+        }
+    }
+
+    pub fn fields(self) -> Fields
+        ensures { λ r. ⌜ r ≡ ofHead self ⌝ }
+    {
+        Fields {
+            first: self.vertices,
+            second: self.reserved,
+            ..ABSENT
+        }
+    }
+}
+
+impl Edge {
+    pub fn of(f: Fields) -> Self
+        requires { ⌜ Fits EDGE f ⌝ }
+        ensures { λ r. ⌜ r ≡ edgeOf f ⌝ }
+    {
+        Edge {
+            number: f.first,
+            lower: f.second,
+            higher: f.third,
+            cost: signed_of(f.fourth, digits_of(EDGE, EDGE_COST)),
+        }
+    }
+
+    pub fn fields(self) -> Fields
+        requires { ⌜ 2 * mag (self .cost) < 16 ^ costDigits ⌝ }
+        ensures { λ r. ⌜ r ≡ ofEdge self ⌝ }
+    {
+        Fields {
+            first: self.number,
+            second: self.lower,
+            third: self.higher,
+            fourth: unsigned_of(self.cost, digits_of(EDGE, EDGE_COST)),
+            ..ABSENT
+        }
+    }
+}
+
+impl Step {
+    pub fn of(f: Fields) -> Self
+        ensures { λ r. ⌜ r ≡ stepOf f ⌝ }
+    {
+        Step {
+            v: f.first,
+            x: f.second,
+            y: f.third,
+        }
+    }
+
+    pub fn fields(self) -> Fields
+        ensures { λ r. ⌜ r ≡ ofStep self ⌝ }
+    {
+        Fields {
+            first: self.v,
+            second: self.x,
+            third: self.y,
+            ..ABSENT
+        }
+    }
+}
+
+impl Dropped {
+    pub fn of(f: Fields) -> Self
+        ensures { λ r. ⌜ r ≡ droppedOf f ⌝ }
+    {
+        Dropped { edge: f.first }
+    }
+
+    pub fn fields(self) -> Fields
+        ensures { λ r. ⌜ r ≡ ofDropped self ⌝ }
+    {
+        Fields {
+            first: self.edge,
+            ..ABSENT
+        }
+    }
+}
+
+impl Kept {
+    pub fn of(f: Fields) -> Self
+        ensures { λ r. ⌜ r ≡ keptOf f ⌝ }
+    {
+        Kept { edge: f.first }
+    }
+
+    pub fn fields(self) -> Fields
+        ensures { λ r. ⌜ r ≡ ofKept self ⌝ }
+    {
+        Fields {
+            first: self.edge,
+            ..ABSENT
+        }
+    }
+}
+
+impl Costs {
+    pub fn of(f: Fields) -> Self
+        requires { ⌜ Fits COSTS f ⌝ }
+        ensures { λ r. ⌜ r ≡ costsOf f ⌝ }
+    {
+        Costs {
+            kept: signed_of(f.first, digits_of(COSTS, COSTS_KEPT)),
+            unreserved: signed_of(f.second, digits_of(COSTS, COSTS_UNRESERVED)),
+        }
+    }
+
+    pub fn fields(self) -> Fields
+        ensures { λ r. ⌜ r ≡ ofCosts self ⌝ }
+    {
+        Fields {
+            first: unsigned_of(self.kept, digits_of(COSTS, COSTS_KEPT)),
+            second: unsigned_of(self.unreserved, digits_of(COSTS, COSTS_UNRESERVED)),
+            ..ABSENT
+        }
+    }
+}
+
+impl Refusal {
+    pub fn of(f: Fields) -> Self
+        ensures { λ r. ⌜ r ≡ refusalOf f ⌝ }
+    {
+        Refusal { number: f.first }
+    }
+
+    pub fn fields(self) -> Fields
+        ensures { λ r. ⌜ r ≡ ofRefusal self ⌝ }
+    {
+        Fields {
+            first: self.number,
+            ..ABSENT
+        }
+    }
+}

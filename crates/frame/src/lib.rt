@@ -1,0 +1,28 @@
+// Frames as lines of hexadecimal digits: one table for reader and writer, frames with named fields, and replies.
+mod digits;
+mod kinds;
+mod line;
+mod reply;
+mod sign;
+mod table;
+
+pub use kinds::Costs;
+pub use kinds::Dropped;
+pub use kinds::Edge;
+pub use kinds::Head;
+pub use kinds::Kept;
+pub use kinds::Refusal;
+pub use kinds::Step;
+pub use line::Fields;
+pub use line::Line;
+pub use line::put_line;
+pub use line::read_line;
+pub use reply::Reply;
+pub use table::COSTS;
+pub use table::DROPPED;
+pub use table::EDGE;
+pub use table::HEAD;
+pub use table::KEPT;
+pub use table::REFUSAL;
+pub use table::STEP;
+pub use table::length_of;
