@@ -1,0 +1,130 @@
+-- `audit::search::reach` meets its contract. The loop's invariant is `Searching`; the measure is the work that is left.
+use Prim.Native.Nat.{ℕ, _<_}
+use mathlib.Core.Path.{refl, sym, _∙_}
+use native.Mathlib.Omega.{arith}
+use lib.ListN.{getD}
+use Rattle.audit.specs.Words.{empty}
+use Rattle.audit.specs.Search.{Sized, state, start, taken, Passes}
+use Rattle.audit.proofs.Searching.{Searching, work, search-start, turn, searched-least}
+use Rattle.audit.proofs.search.reach.Statement.{statement}
+use Rattle.audit.proofs.search.reach.Tie as tie
+
+abbrev Inv-loop : tie.InvT-loop
+Inv-loop low high listed edges first next reached₀ waiting₀ v₀ reached waiting v =
+    Searching low high listed edges (state reached waiting) v
+
+abbrev μ-loop : tie.MeasureT-loop
+μ-loop low high listed edges first next reached₀ waiting₀ v₀ reached waiting v = work (state reached waiting)
+
+slice-aggregate-enter : tie.Need-slice-aggregate-enter Inv-loop μ-loop
+slice-aggregate-enter c = refl
+
+slice-aggregate-enter-2 : tie.Need-slice-aggregate-enter-2 Inv-loop μ-loop
+slice-aggregate-enter-2 c = refl
+
+enter-requires : tie.Need-enter-requires Inv-loop μ-loop
+enter-requires c κs = (record { reached = refl; waiting = refl }, omega arith)
+
+loop-holds : tie.Need-loop-holds Inv-loop μ-loop
+unfolding start empty
+loop-holds c = rw (c .before .before .enter .ensures) (search-start _ _ _ _)
+
+slice-aggregate-remove : tie.Need-slice-aggregate-remove Inv-loop μ-loop
+slice-aggregate-remove c = sym (c .before .before .loop .inv .sized .waiting)
+
+remove-requires : tie.Need-remove-requires Inv-loop μ-loop
+remove-requires c κs = (c .before .before .loop .inv .sized .waiting, c .before .loop-test .taken)
+
+mul-start : tie.Need-mul-start Inv-loop μ-loop
+mul-start c = omega (arith, c .before .before .before .loop-test .taken)
+
+shared-slice-read-start : tie.Need-shared-slice-read-start Inv-loop μ-loop
+shared-slice-read-start c = omega (arith, c .before .before .before .before .loop-test .taken, c .before .before .before .before .before .before .before .before .before .before .before .before .before .before .before .before .pre .1)
+
+cast-start : tie.Need-cast-start Inv-loop μ-loop
+cast-start c = omega (arith, c .shared-slice-known6 .given (c .before .before .before .before .before .loop .v))
+
+-- the sets keep their words
+removed-sized : (c : tie.After-remove Inv-loop μ-loop) → Sized (state (c .before .before .before .loop .reached) (c .remove .last .0))
+removed-sized c = let sized = c .before .before .before .loop .inv .sized in record { reached = sized .reached; waiting = c .remove .kept .0 ∙ sized .waiting }
+
+visited-sized : (c : tie.After-visit Inv-loop μ-loop) → Sized (state (c .visit .last .1 .1 .1 .1 .1 .1 .0) (c .visit .last .1 .1 .1 .1 .1 .1 .1 .0))
+visited-sized c = let sized = removed-sized (c .before .before .before .before .before) in record { reached = c .visit .kept .1 .1 .1 .1 .1 .1 .0 ∙ sized .reached; waiting = c .visit .kept .1 .1 .1 .1 .1 .1 .1 .0 ∙ sized .waiting }
+
+slice-aggregate-visit : tie.Need-slice-aggregate-visit Inv-loop μ-loop
+slice-aggregate-visit c = sym (removed-sized (c .before .before .before) .reached)
+
+slice-aggregate-visit-2 : tie.Need-slice-aggregate-visit-2 Inv-loop μ-loop
+slice-aggregate-visit-2 c = sym (removed-sized (c .before .before .before .before) .waiting)
+
+visit-requires : tie.Need-visit-requires Inv-loop μ-loop
+visit-requires c κs = (c .before .before .before .before .before .before .before .before .before .before .before .before .before .before .before .before .before .before .pre .0, removed-sized (c .before .before .before .before))
+
+slice-aggregate-next-vertex : tie.Need-slice-aggregate-next-vertex Inv-loop μ-loop
+slice-aggregate-next-vertex c = sym (visited-sized (c .before .before .before) .reached)
+
+slice-aggregate-next-vertex-2 : tie.Need-slice-aggregate-next-vertex-2 Inv-loop μ-loop
+slice-aggregate-next-vertex-2 c = sym (visited-sized (c .before .before .before .before) .waiting)
+
+next-vertex-requires : tie.Need-next-vertex-requires Inv-loop μ-loop
+next-vertex-requires c κs = (c .before .before .before .before .before .before .before .before .before .before .before .before .before .before .before .before .before .before .before .before .before .before .before .pre .0, visited-sized (c .before .before .before .before))
+
+-- the columns' elements are bytes
+low-byte : (c : tie.At-loop Inv-loop μ-loop) (e : ℕ) → getD (c .before .before .before .before .before .before .before .before .before .before .before .args .low .now) e 0 < 256
+low-byte c e = omega (arith, c .before .before .before .before .before .before .before .before .before .before .shared-slice-known .given e)
+
+high-byte : (c : tie.At-loop Inv-loop μ-loop) (e : ℕ) → getD (c .before .before .before .before .before .before .before .before .before .before .before .args .high .now) e 0 < 256
+high-byte c e = omega (arith, c .before .before .before .before .before .before .before .before .before .shared-slice-known2 .given e)
+
+visit-passes : (c : tie.After-visit Inv-loop μ-loop)
+    → let at = c .before .before .before .before .before .before .before .before in
+    let a = at .before .before .before .before .before .before .before .before .before .before .before .args in
+    Passes (a .low .now) (a .high .now) (a .listed .now) (a .edges)
+    (taken (state (at .loop .reached) (at .loop .waiting)) (at .loop .v)) (state (c .visit .last .1 .1 .1 .1 .1 .1 .0) (c .visit .last .1 .1 .1 .1 .1 .1 .1 .0))
+unfolding taken
+visit-passes c = rw (c .before .before .before .before .before .remove .ensures) at (c .visit .ensures)
+
+-- a whole turn
+turned : (c : tie.After-next-vertex Inv-loop μ-loop)
+    → let at = c .before .before .before .before .before .before .before .before .before .before .before .before .before in
+    let a = at .before .before .before .before .before .before .before .before .before .before .before .args in
+    let after = state (c .next-vertex .last .1 .1 .1 .1 .0) (c .next-vertex .last .1 .1 .1 .1 .1 .0) in
+    Searching (a .low .now) (a .high .now) (a .listed .now) (a .edges) after (c .next-vertex .result) × (work after < work (state (at .loop .reached) (at .loop .waiting)))
+turned c =
+    let at = c .before .before .before .before .before .before .before .before .before .before .before .before .before in
+    turn _ _ _ _ (low-byte at) (high-byte at) _ _ _ (at .loop .inv) (c .before .before .before .before .before .before .before .before .before .before .before .before .loop-test .taken)
+    (visit-passes (c .before .before .before .before .before)) _ _ (c .next-vertex .ensures .1) (c .next-vertex .ensures .0)
+
+loop-less : tie.Need-loop-less Inv-loop μ-loop
+loop-less c = turned (c .before .before) .1
+
+loop-again : tie.Need-loop-again Inv-loop μ-loop
+loop-again c = turned (c .before .before) .0
+
+returns : tie.Need-returns Inv-loop μ-loop
+returns c = searched-least _ _ _ _ _ _ (c .before .loop .inv) (c .loop-test .left)
+
+pub reach-spec : {M : Type 1} → statement M
+reach-spec =
+    tie.close
+    (tie.spec
+    Inv-loop
+    μ-loop
+    slice-aggregate-enter
+    slice-aggregate-enter-2
+    enter-requires
+    loop-holds
+    slice-aggregate-remove
+    remove-requires
+    mul-start
+    shared-slice-read-start
+    cast-start
+    slice-aggregate-visit
+    slice-aggregate-visit-2
+    visit-requires
+    slice-aggregate-next-vertex
+    slice-aggregate-next-vertex-2
+    next-vertex-requires
+    loop-less
+    loop-again
+    returns)

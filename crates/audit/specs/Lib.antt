@@ -1,0 +1,4 @@
+pub mod Joined
+pub mod Words
+pub mod Search
+pub mod Answers

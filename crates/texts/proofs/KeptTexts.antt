@@ -1,0 +1,98 @@
+-- The kept edges one after the other, and the lengths of kept texts.
+-- Assumes nothing.
+use mathlib.Core.Path.{_≡_, refl, _∙_, ap}
+use mathlib.Core.Bool.{Bool, true, false, cond}
+use mathlib.Core.List.{List, [], _∷_, _++_, map}
+use Prim.Native.Nat.{ℕ, zero, suc, _+_, _*_, _-_, _≤_, _<_}
+use native.Mathlib.Omega.{arith}
+use native.Mathlib.Numerals.{add-one}
+use native.Mathlib.Nat.{sub-zero}
+use lib.ListN.{length, length-append}
+use lib.IntN.{ℤ}
+use borrow.Author.Tests.{le-leb, lt-ltb}
+use Rattle.frame.specs.Answer.{answer, andThen, over}
+use Rattle.frame.specs.Table.{KEPT, COSTS, REFUSAL, bytesOf, padded, total, placeOf, startOf, lineLength}
+use Rattle.frame.specs.Line.{lineOf}
+use Rattle.frame.specs.Frames.{listed, linesOf}
+use Rattle.frame.specs.Kinds.{ofCosts, ofRefusal}
+use Rattle.frame.proofs.Lines.{length-line}
+use Rattle.texts.specs.Limits.{verticesOk}
+use Rattle.texts.specs.Lists.{frameOf, risingFrom, meaningOf, listText, writeList}
+use Rattle.texts.specs.Kept.{pick, isKept, keptEdges, keptText, keptLength, refusalText}
+use Rattle.texts.proofs.ListsTexts.{length-list}
+use Rattle.texts.proofs.Pieces.{Written, written-last, written-front}
+
+module _ (p : ℕ → Bool) where
+  -- the picked numbers that are left from a place on
+  pub pick-start : (n : ℕ) → pick (n - 0) 0 p ≡ pick n 0 p
+  pick-start n = rw sub-zero
+
+  pub pick-end : (n k : ℕ) → n ≤ k → pick (n - k) k p ≡ []
+  unfolding pick
+  pick-end n k h = let e : n - k ≡ 0 = omega arith in rw e
+
+  module _ (n k : ℕ) (h : k < n) where
+    pub pick-kept : p k ≡ true → pick (n - k) k p ≡ k ∷ pick (n - (k + 1)) (k + 1) p
+    unfolding pick
+    pick-kept t = let e : n - k ≡ suc (n - (k + 1)) = omega arith in rw (e, add-one, t)
+
+    pub pick-other : p k ≡ false → pick (n - k) k p ≡ pick (n - (k + 1)) (k + 1) p
+    unfolding pick
+    pick-other t = let e : n - k ≡ suc (n - (k + 1)) = omega arith in rw (e, add-one, t)
+
+    -- the text that is left, where the number at the place is kept
+    pub text-kept : p k ≡ true → listText (pick (n - k) k p) ≡ lineOf KEPT (frameOf k) ++ listText (pick (n - (k + 1)) (k + 1) p)
+    unfolding listText linesOf
+    text-kept t = ap listText (pick-kept t)
+
+  pub few-picked : (n k : ℕ) → length (pick n k p) ≤ n
+  unfolding pick
+  few-picked zero k = omega arith
+  few-picked (suc n) k = go (p k) (few-picked n (suc k))
+    where
+      go : (b : Bool) → length (pick n (suc k) p) ≤ n → length (cond b (k ∷ pick n (suc k) p) (pick n (suc k) p)) ≤ suc n
+      go true h = omega arith
+      go false h = omega arith
+
+pub length-kept : (es : List ℕ) (kept unreserved : ℤ) → length (keptText es kept unreserved) ≡ keptLength (length es)
+unfolding keptText keptLength
+length-kept es kept unreserved =
+    let costs = ofCosts (record { kept = kept; unreserved = unreserved }) in
+    length-append (listText es) (lineOf COSTS costs) ∙ omega (arith, length-list es, length-line COSTS costs)
+
+-- the costs are left to write behind the kept edges
+pub costs-left : (es : List ℕ) (kept unreserved : ℤ) (old out : List ℕ) (at : ℕ) → at ≡ length (listText es) → out ≡ over (listText es) old
+    → length (keptText es kept unreserved) ≤ length old
+    → Written (keptText es kept unreserved) (lineOf COSTS (ofCosts (record { kept = kept; unreserved = unreserved })) ++ []) old out at
+unfolding keptText
+costs-left es kept unreserved old out at n e h =
+    written-last (keptText es kept unreserved) old out at COSTS (ofCosts (record { kept = kept; unreserved = unreserved }))
+    (written-front (listText es) (lineOf COSTS (ofCosts (record { kept = kept; unreserved = unreserved }))) old out at n e h)
+
+-- how many bytes that is
+pub bytes-of-kept : (es : List ℕ) (kept unreserved : ℤ) → length (keptText es kept unreserved) ≡ 7 * length es + 35
+unfolding keptLength lineLength startOf placeOf bytesOf padded total
+bytes-of-kept es kept unreserved = length-kept es kept unreserved ∙ omega arith
+
+pub bytes-of-refusal : (k : ℕ) → length (refusalText k) ≡ 5
+unfolding refusalText lineLength startOf placeOf bytesOf padded total
+bytes-of-refusal k = length-line REFUSAL (ofRefusal (record { number = k }))
+
+-- the kept edges of a network are an audit list: they are its edges, and rise
+module _ (n : ℕ) (p : ℕ → Bool) where
+  pick-rises : (m k least : ℕ) → least ≤ k → k + m ≤ 2 * n → risingFrom n least (listed (map frameOf (pick m k p))) ≡ answer (pick m k p)
+  unfolding pick risingFrom listed andThen
+  pick-rises zero k least h l = refl
+  pick-rises (suc m) k least h l = go (p k) (pick-rises m (suc k))
+    where
+      go : (b : Bool)
+          → ((low : ℕ) → low ≤ suc k → suc k + m ≤ 2 * n → risingFrom n low (listed (map frameOf (pick m (suc k) p))) ≡ answer (pick m (suc k) p))
+          → risingFrom n least (listed (map frameOf (cond b (k ∷ pick m (suc k) p) (pick m (suc k) p))))
+          ≡ answer (cond b (k ∷ pick m (suc k) p) (pick m (suc k) p))
+      go true r = rw (le-leb least k h, lt-ltb k (2 * n) (omega arith), r (suc k) (omega arith) (omega arith))
+      go false r = r least (omega arith) (omega arith)
+
+pub kept-rises : (n : ℕ) (marks : List Bool) → verticesOk n ≡ true
+    → writeList n (keptEdges (2 * n) marks) ≡ answer (listText (keptEdges (2 * n) marks))
+unfolding writeList meaningOf andThen keptEdges
+kept-rises n marks h = rw (h, pick-rises n (isKept marks) (2 * n) 0 0 (omega arith) (omega arith))

@@ -1,0 +1,124 @@
+-- A network in working columns: what the columns hold of its meaning, and what buffers hold that they are copied to.
+-- Assumes nothing.
+use mathlib.Core.Path.{_≡_, refl, ap}
+use mathlib.Core.Bool.{true, false, and-false}
+use mathlib.Core.Logic.{inl, inr}
+use mathlib.Core.List.{List}
+use Prim.Native.Nat.{ℕ, _*_, _≤_, _<_}
+use native.Mathlib.Omega.{arith}
+use lib.ListN.{length, take, drop, length-append}
+use lib.Seq.{take-at}
+use lib.IntN.{ℤ}
+use borrow.Author.Tests.{le-leb, lt-leb}
+use Rattle.frame.specs.Answer.{Answer, refused, answer, filled, over, roomIn, SHORT}
+use Rattle.frame.proofs.Answers.{given-refused, given-fits, given-short}
+use Rattle.texts.specs.Limits.{mostVertices}
+use Rattle.texts.specs.Networks.{Meaning, Valid, readNetwork, readReply, roomFor, readInto}
+use Rattle.texts.specs.NetworksColumns.{Columns, NetworkRead, NetworkGiven}
+use Rattle.texts.specs.declared.network.ReadNetwork.the-variants.{Read, Refused}
+use Rattle.texts.proofs.NetworksColumns.{SomeOf}
+use Rattle.texts.proofs.NetworksMeaning.{read-valid}
+
+reply-refused : (a : Answer Meaning) (k : ℕ) → Refused k ≡ readReply a → a ≡ refused k
+unfolding readReply
+reply-refused (refused j) k x = let z : j ≡ k = cc in ap refused z
+reply-refused (answer m) k x = let z : _≡_ {A = ℕ} 0 1 = cc in absurd (omega arith)
+
+reply-read : (a : Answer Meaning) (n r : ℕ) → Read n r ≡ readReply a → (m : Meaning) × (a ≡ answer m) × (n ≡ m .vertices) × (r ≡ m .reserved)
+unfolding readReply
+reply-read (refused j) n r x = let z : _≡_ {A = ℕ} 0 1 = cc in absurd (omega arith)
+reply-read (answer m) n r x = (m, refl, cc, cc)
+
+-- a column that starts with a list of so many elements
+pub record Starts {A : Type 0} (k : ℕ) (xs column : List A) : Type 0 where
+  pub count : length xs ≡ k
+  pub long : k ≤ length column
+  pub first : take k column ≡ xs
+
+starts : {A : Type 0} (k : ℕ) (xs old : List A) {column : List A} → length xs ≡ k → column ≡ over xs old → Starts k xs column
+unfolding over
+starts k xs old n x =
+    record {
+      count = n;
+      long = rw x (omega (arith, length-append xs (drop (length xs) old)));
+      first = rw x (take-at xs (drop (length xs) old) k n);
+    }
+
+-- what working columns hold that a network was read into
+pub record Stored (t lows highs : List ℕ) (costs : List ℤ) (n r : ℕ) : Type 0 where
+  pub meaning : Meaning
+  pub is : readNetwork t ≡ answer meaning
+  pub vertices : n ≡ meaning .vertices
+  pub reserved : r ≡ meaning .reserved
+  pub valid : Valid meaning
+  pub few : n ≤ mostVertices
+  pub low : Starts (2 * n) (meaning .low) lows
+  pub high : Starts (2 * n) (meaning .high) highs
+  pub cost : Starts (2 * n) (meaning .cost) costs
+
+pub stored : {t low₀ high₀ : List ℕ} {cost₀ : List ℤ} {lows highs : List ℕ} {costs : List ℤ} {n r : ℕ}
+    → NetworkRead (readNetwork t) low₀ high₀ cost₀ lows highs costs (Read n r) → Stored t lows highs costs n r
+stored {t} {low₀} {high₀} {cost₀} {n = n} {r = r} x =
+    let p = reply-read (readNetwork t) n r (x .reply) in
+    let m = p .0 in
+    let y = rw (p .1) at x in
+    let v = read-valid t m (p .1) in
+    let e = p .2 in
+    record {
+      meaning = m;
+      is = p .1;
+      vertices = p .2;
+      reserved = p .3;
+      valid = v;
+      few = omega (arith, v .few);
+      low = starts (2 * n) (m .low) low₀ (omega (arith, v .low-count)) (y .lows);
+      high = starts (2 * n) (m .high) high₀ (omega (arith, v .high-count)) (y .highs);
+      cost = starts (2 * n) (m .cost) cost₀ (omega (arith, v .cost-count)) (y .costs);
+    }
+
+-- what buffers hold that the columns are copied to
+module _ (low high : List ℕ) (cost : List ℤ) where
+  refuses : (t : List ℕ) (k : ℕ) → readInto t low high cost ≡ refused k → NetworkGiven (readInto t low high cost) low high cost low high cost (Refused k)
+  unfolding readReply filled
+  refuses t k x = rw x (record { reply = refl; lows = refl; highs = refl; costs = refl })
+
+  pub given-none : (t : List ℕ) {low₀ high₀ : List ℕ} {cost₀ : List ℤ} {lows highs : List ℕ} {costs : List ℤ} {k : ℕ}
+      → NetworkRead (readNetwork t) low₀ high₀ cost₀ lows highs costs (Refused k)
+      → NetworkGiven (readInto t low high cost) low high cost low high cost (Refused k)
+  given-none t {k = k} x =
+      refuses t k (given-refused (roomFor low high cost) (readNetwork t) k (reply-refused (readNetwork t) k (x .reply)))
+
+  module _ {t lows highs : List ℕ} {costs : List ℤ} {n r : ℕ} (w : Stored t lows highs costs n r) where
+    room-short : SomeOf (λ k. k < 2 * n) low high cost → roomFor low high cost (w .meaning) ≡ false
+    unfolding roomFor roomIn
+    room-short (inl h) = rw (w .low .count, lt-leb (2 * n) (length low) h)
+    room-short (inr (inl h)) = rw (w .high .count, lt-leb (2 * n) (length high) h, and-false)
+    room-short (inr (inr h)) = rw (w .cost .count, lt-leb (2 * n) (length cost) h, and-false, and-false)
+
+    room-fits : Columns n low high cost → roomFor low high cost (w .meaning) ≡ true
+    unfolding roomFor roomIn
+    room-fits c =
+        rw (
+          w .low .count,
+          w .high .count,
+          w .cost .count,
+          le-leb (2 * n) (length low) (c .low-room),
+          le-leb (2 * n) (length high) (c .high-room),
+          le-leb (2 * n) (length cost) (c .cost-room),
+        )
+
+    pub no-room : SomeOf (λ k. k < 2 * n) low high cost → NetworkGiven (readInto t low high cost) low high cost low high cost (Refused SHORT)
+    no-room s = refuses t SHORT (given-short (roomFor low high cost) (readNetwork t) (w .meaning) (w .is) (room-short s))
+
+    pub given-all : Columns n low high cost
+        → NetworkGiven (readInto t low high cost) low high cost
+        (over (take (2 * n) lows) low) (over (take (2 * n) highs) high) (over (take (2 * n) costs) cost) (Read n r)
+    unfolding readReply filled
+    given-all c =
+        rw (given-fits (roomFor low high cost) (readNetwork t) (w .meaning) (w .is) (room-fits c))
+        (record {
+          reply = rw (w .vertices, w .reserved);
+          lows = rw (w .low .first);
+          highs = rw (w .high .first);
+          costs = rw (w .cost .first);
+        })

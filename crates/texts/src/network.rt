@@ -1,0 +1,269 @@
+// Network texts: read into columns, and written from them.
+use super::limits::MOST_EDGES;
+use super::limits::cost_ok;
+use super::limits::vertices_ok;
+use super::refusals::COST;
+use super::refusals::ENDS;
+use super::refusals::FORM;
+use super::refusals::RESERVED;
+use super::refusals::SHORT;
+use super::refusals::VERTICES;
+use frame::EDGE;
+use frame::Edge;
+use frame::HEAD;
+use frame::Head;
+use frame::Line;
+use frame::Reply;
+use frame::length_of;
+use frame::put_line;
+use frame::read_line;
+ghost use mathlib.Core.Path.{_≡_};
+ghost use Prim.Native.Nat.{_*_, _<_, _≤_};
+ghost use lib.ListN.{length, take, drop};
+ghost use Rattle.frame.specs.Answer.{over, replyOf, after};
+ghost use Rattle.texts.specs.Limits.{mostVertices, refusalOf};
+ghost use Rattle.texts.specs.Networks.{headRefusal, edgeRefusal, checked, edgesOf, readNetwork, readInto, inColumns, edgesIn, meant, Valid, networkText, networkLength, edgesText, writeNetwork};
+ghost use Rattle.texts.specs.NetworksColumns.{Columns, EdgesRead, NetworkRead, NetworkGiven, edgeAt, Edged};
+
+// What reading a network text answers: what its head says, or a refusal's number. Its edges go into columns.
+pub enum ReadNetwork {
+    Read { vertices: usize, reserved: usize },
+    Refused(u8),
+}
+
+// The refusal of a head, or 0.
+fn head_refusal(vertices: usize, reserved: usize) -> u8
+    ensures { λ r. ⌜ r ≡ headRefusal vertices reserved ⌝ }
+{
+    if !vertices_ok(vertices) {
+        return VERTICES;
+    }
+    if reserved < 2 * vertices { 0 } else { RESERVED }
+}
+
+// The refusal of the edge at a place, or 0.
+fn edge_refusal(vertices: usize, place: usize, edge: Edge) -> u8
+    ensures { λ r. ⌜ r ≡ edgeRefusal vertices place edge ⌝ }
+{
+    if edge.number != place as u64 {
+        return ENDS;
+    }
+    if edge.higher <= edge.lower {
+        return ENDS;
+    }
+    if vertices as u64 <= edge.higher {
+        return ENDS;
+    }
+    if cost_ok(edge.cost) { 0 } else { COST }
+}
+
+// Reads the edges of a network text from a place on, with nothing behind them, into columns. Answers the first refusal, or 0.
+fn read_edges(
+    text: &[u8],
+    first: usize,
+    vertices: usize,
+    low: &mut [u16],
+    high: &mut [u16],
+    cost: &mut [i64],
+) -> u8
+    requires { ⌜ Columns vertices (now low) (now high) (now cost) ⌝ }
+    ensures { λ r. ⌜ EdgesRead (checked vertices 0 (edgesOf (2 * vertices) (drop first (now (text .entry)))))
+        (now (low .entry)) (now (high .entry)) (now (cost .entry)) (now (low .exit)) (now (high .exit)) (now (cost .exit)) r ⌝ }
+{
+    let mut at = first;
+    let mut i = 0;
+    while i < 2 * vertices {
+        let Line::Frame(f, next) = read_line(text, at, EDGE) else {
+            return FORM;
+        };
+        let edge = Edge::of(f);
+        let refusal = edge_refusal(vertices, i, edge);
+        if 0 < refusal {
+            return refusal;
+        }
+        low[i] = edge.lower as u16;
+        high[i] = edge.higher as u16;
+        let c = edge.cost;
+        cost[i] = c;
+        at = next;
+        i += 1;
+    }
+    if at < text.len() { FORM } else { 0 }
+}
+
+// Reads a network text into columns of the caller's, which have room for any network. After a refusal the columns may hold anything.
+pub fn read_columns(text: &[u8], low: &mut [u16], high: &mut [u16], cost: &mut [i64]) -> ReadNetwork
+    requires { ⌜ Columns mostVertices (now low) (now high) (now cost) ⌝ }
+    ensures { λ r. ⌜ NetworkRead (readNetwork (now (text .entry)))
+        (now (low .entry)) (now (high .entry)) (now (cost .entry)) (now (low .exit)) (now (high .exit)) (now (cost .exit)) r ⌝ }
+{
+    let Line::Frame(f, first) = read_line(text, 0, HEAD) else {
+        return ReadNetwork::Refused(FORM);
+    };
+    let head = Head::of(f);
+    let vertices = head.vertices as usize;
+    let reserved = head.reserved as usize;
+    let refusal = head_refusal(vertices, reserved);
+    if 0 < refusal {
+        return ReadNetwork::Refused(refusal);
+    }
+    let refusal = read_edges(text, first, vertices, low, high, cost);
+    if 0 < refusal {
+        return ReadNetwork::Refused(refusal);
+    }
+    ReadNetwork::Read { vertices, reserved }
+}
+
+// Copies the first elements of a column of ends.
+fn copy_ends(from: &[u16], count: usize, to: &mut [u16])
+    requires { ⌜ (count ≤ length (now from)) × (count ≤ length (now to)) ⌝ }
+    ensures { λ r. ⌜ now (to .exit) ≡ over (take count (now (from .entry))) (now (to .entry)) ⌝ }
+{
+    let mut i = 0;
+    while i < count {
+        to[i] = from[i];
+        i += 1;
+    }
+}
+
+// Copies the first elements of a column of costs.
+fn copy_costs(from: &[i64], count: usize, to: &mut [i64])
+    requires { ⌜ (count ≤ length (now from)) × (count ≤ length (now to)) ⌝ }
+    ensures { λ r. ⌜ now (to .exit) ≡ over (take count (now (from .entry))) (now (to .entry)) ⌝ }
+{
+    let mut i = 0;
+    while i < count {
+        let c = from[i];
+        to[i] = c;
+        i += 1;
+    }
+}
+
+// Reads a network text into buffers: the ends and the costs of its edges, by their numbers.
+pub fn read_network(text: &[u8], low: &mut [u16], high: &mut [u16], cost: &mut [i64]) -> ReadNetwork
+    ensures { λ r. ⌜ NetworkGiven (readInto (now (text .entry)) (now (low .entry)) (now (high .entry)) (now (cost .entry)))
+        (now (low .entry)) (now (high .entry)) (now (cost .entry)) (now (low .exit)) (now (high .exit)) (now (cost .exit)) r ⌝ }
+{
+    let mut lows = [0u16; MOST_EDGES];
+    let mut highs = [0u16; MOST_EDGES];
+    let mut costs = [0i64; MOST_EDGES];
+    let read = read_columns(text, &mut lows, &mut highs, &mut costs);
+    let ReadNetwork::Read {
+        vertices,
+        reserved: _,
+    } = read
+    else {
+        return read;
+    };
+    let edges = 2 * vertices;
+    if low.len() < edges || high.len() < edges || cost.len() < edges {
+        return ReadNetwork::Refused(SHORT);
+    }
+    copy_ends(&lows, edges, low);
+    copy_ends(&highs, edges, high);
+    copy_costs(&costs, edges, cost);
+    read
+}
+
+// The edge at a place of columns.
+fn edge_at(low: &[u16], high: &[u16], cost: &[i64], place: usize) -> Edge
+    requires { ⌜ (place < length (now low)) × (place < length (now high)) × (place < length (now cost)) ⌝ }
+    ensures { λ r. ⌜ r ≡ edgeAt (now (low .entry)) (now (high .entry)) (now (cost .entry)) place ⌝ }
+{
+    let c = cost[place];
+    Edge {
+        number: place as u64,
+        lower: low[place] as u64,
+        higher: high[place] as u64,
+        cost: c,
+    }
+}
+
+// The first refusal of the edges of columns, or 0.
+fn check_edges(vertices: usize, low: &[u16], high: &[u16], cost: &[i64]) -> u8
+    requires { ⌜ vertices ≤ mostVertices ⌝ }
+    ensures { λ r. ⌜ r ≡ refusalOf (checked vertices 0
+        (inColumns (2 * vertices) 0 (now (low .entry)) (now (high .entry)) (now (cost .entry)))) ⌝ }
+{
+    let edges = 2 * vertices;
+    let mut i = 0;
+    while i < edges {
+        if low.len() <= i || high.len() <= i || cost.len() <= i {
+            return FORM;
+        }
+        let refusal = edge_refusal(vertices, i, edge_at(low, high, cost, i));
+        if 0 < refusal {
+            return refusal;
+        }
+        i += 1;
+    }
+    if edges < low.len() || edges < high.len() || edges < cost.len() {
+        return FORM;
+    }
+    0
+}
+
+// Writes the frames of the edges of columns to the start of `out`, each directly behind the one before it.
+fn put_edges(low: &[u16], high: &[u16], cost: &[i64], edges: usize, out: &mut [u8])
+    requires { ⌜ Edged edges (now low) (now high) (now cost) (now out) ⌝ }
+    ensures { λ r. ⌜ now (out .exit) ≡
+        over (edgesText (edgesIn 0 (now (low .entry)) (now (high .entry)) (now (cost .entry)))) (now (out .entry)) ⌝ }
+{
+    let mut at = 0;
+    let mut place = 0;
+    while place < edges {
+        let edge = edge_at(low, high, cost, place);
+        at += put_line(&mut out[at..], EDGE, edge.fields());
+        place += 1;
+    }
+}
+
+// Writes the text of a network to the start of `text`: its head, and its edges behind it.
+fn put_network(
+    vertices: usize,
+    reserved: usize,
+    low: &[u16],
+    high: &[u16],
+    cost: &[i64],
+    text: &mut [u8],
+)
+    requires { ⌜ Valid (meant vertices reserved (now low) (now high) (now cost)) ×
+        (networkLength (2 * vertices) ≤ length (now text)) ⌝ }
+    ensures { λ r. ⌜ now (text .exit) ≡
+        over (networkText vertices reserved (edgesIn 0 (now (low .entry)) (now (high .entry)) (now (cost .entry)))) (now (text .entry)) ⌝ }
+{
+    let head = Head {
+        vertices: vertices as u64,
+        reserved: reserved as u64,
+    };
+    let at = put_line(text, HEAD, head.fields());
+    put_edges(low, high, cost, 2 * vertices, &mut text[at..]);
+}
+
+// Writes the network text of a meaning: the number of vertices, the reserved edge, and the ends and costs of the edges.
+pub fn write_network(
+    vertices: usize,
+    reserved: usize,
+    low: &[u16],
+    high: &[u16],
+    cost: &[i64],
+    text: &mut [u8],
+) -> Reply
+    ensures { λ r. ⌜ (r ≡ replyOf (writeNetwork (meant vertices reserved (now (low .entry)) (now (high .entry)) (now (cost .entry)))) (now (text .entry))) ×
+        (now (text .exit) ≡ after (writeNetwork (meant vertices reserved (now (low .entry)) (now (high .entry)) (now (cost .entry)))) (now (text .entry))) ⌝ }
+{
+    let refusal = head_refusal(vertices, reserved);
+    if 0 < refusal {
+        return Reply::Refused(refusal);
+    }
+    let refusal = check_edges(vertices, low, high, cost);
+    if 0 < refusal {
+        return Reply::Refused(refusal);
+    }
+    let length = length_of(HEAD) + 2 * vertices * length_of(EDGE);
+    if text.len() < length {
+        return Reply::Refused(SHORT);
+    }
+    put_network(vertices, reserved, low, high, cost, text);
+    Reply::Done(length)
+}
