@@ -1,0 +1,116 @@
+-- The network check by its steps, and what is known of an accepted network.
+use mathlib.Core.Path.{_≡_, refl, sym, _∙_, ap}
+use mathlib.Core.Bool.{Bool, true, false, cond}
+use mathlib.Core.List.{List}
+use Prim.Native.Nat.{ℕ, zero, suc, _+_, _-_, _≤_, _<_}
+use native.Mathlib.Omega.{arith}
+use lib.ListN.{length}
+use Rattle.frame.specs.Answer.{Answer, refused, answer, andThen}
+use Rattle.texts.specs.Limits.{unless}
+use Rattle.loading.specs.Loading.{loadNetwork, loadedBy}
+use Rattle.loading.proofs.Reading.{Known, loaded-known}
+use Rattle.graph.specs.Cut.{everyCut, everyCutOf, fourEach, networkRefusal}
+use Rattle.graph.specs.Chain.{refused as refusedWith, keeps}
+use Rattle.graph.specs.State.{vertexLimit}
+use Rattle.graph.specs.declared.Network.{Network}
+use Rattle.graph.proofs.Condition.{accepted-sound, fresh-remaining, passes-good}
+use Rattle.thinning.specs.declared.network.Acceptance.the-variants.{Accepted, Refused}
+use Rattle.thinning.specs.Running.{Running, Keeping}
+use Rattle.thinning.specs.Verdicts.{checkChain}
+use Rattle.thinning.specs.Services.{acceptNetwork, acceptanceOf, keptOf, keptIn, checkChainText}
+use Rattle.thinning.proofs.ChainTexts.{Meant, bytes-meant}
+
+-- ── refusals 6 and 7 ──
+module _ (g : Network) where
+  pub degree-refused : fourEach g ≡ false → 6 ≡ networkRefusal g
+  unfolding networkRefusal
+  degree-refused h = rw h
+
+  pub cut-refused : fourEach g ≡ true → everyCut 4 g ≡ false → 7 ≡ networkRefusal g
+  unfolding networkRefusal
+  cut-refused h k = rw (h, k)
+
+  pub not-refused : fourEach g ≡ true → everyCut 4 g ≡ true → 0 ≡ networkRefusal g
+  unfolding networkRefusal
+  not-refused h k = rw (h, k)
+
+-- ── the check of a text ──
+pub accept-refused : (t : List ℕ) (k : ℕ) → loadNetwork t ≡ refused k → acceptNetwork t ≡ refused k
+unfolding acceptNetwork andThen
+accept-refused t k e = rw e
+
+pub accept-judged : (t : List ℕ) (g : Network) (k : ℕ) → loadNetwork t ≡ answer g → k ≡ networkRefusal g → loadedBy k g ≡ acceptNetwork t
+unfolding acceptNetwork andThen
+accept-judged t g k e q = rw (e, ← q) (same k)
+  where
+    same : (k : ℕ) → loadedBy k g ≡ unless k (answer g)
+    same zero = unfold loadedBy unless in refl
+    same (suc k) = unfold loadedBy unless in refl
+
+pub answered-refused : (a : Answer Network) (k : ℕ) → a ≡ refused k → Refused k ≡ acceptanceOf a
+unfolding acceptanceOf
+answered-refused a k e = rw e
+
+pub answered-accepted : (a : Answer Network) (g : Network) → a ≡ answer g → Accepted ≡ acceptanceOf a
+unfolding acceptanceOf
+answered-accepted a g e = rw e
+
+-- ── an accepted network ──
+pub record Whole (t : List ℕ) (g : Network) : Type 0 where
+  pub known : Known g
+  pub passed : networkRefusal g ≡ 0
+
+pub accepted-whole : (t : List ℕ) (g : Network) → acceptNetwork t ≡ answer g → Whole t g
+unfolding acceptNetwork andThen
+accepted-whole t g e = go (loadNetwork t) refl e
+  where
+    judged : (h : Network) (k : ℕ) → networkRefusal h ≡ k → unless k (answer h) ≡ answer g → (networkRefusal h ≡ 0) × (h ≡ g)
+    judged h zero q e = unfold unless in (q, cc)
+    judged h (suc k) q e = unfold unless in let z : _≡_ {A = ℕ} 0 1 = cc in absurd (omega arith)
+
+    go : (a : Answer Network) → loadNetwork t ≡ a → andThen a (λ g. unless (networkRefusal g) (answer g)) ≡ answer g → Whole t g
+    go (refused k) q e = let z : _≡_ {A = ℕ} 0 1 = cc in absurd (omega arith)
+    go (answer h) q e = let w = judged h (networkRefusal h) refl e in rw (← w .1) (record { known = loaded-known t h q; passed = w .0 })
+
+-- an accepted network runs
+pub accepted-running : (t : List ℕ) (g : Network) → acceptNetwork t ≡ answer g → Running g
+accepted-running t g e =
+    let w = accepted-whole t g e in
+    let k = w .known in
+    record {
+      sound = accepted-sound (k .fresh) (w .passed);
+      light = k .light;
+      left = omega (arith, fresh-remaining (k .fresh), k .several);
+      edge-room = k .edge-room;
+      vertex-room = k .vertex-room;
+      long = k .long;
+    }
+
+pub remaining-few : (t : List ℕ) (g : Network) → acceptNetwork t ≡ answer g → g .remaining ≤ vertexLimit
+remaining-few t g e = let k = accepted-whole t g e .known in omega (arith, fresh-remaining (k .fresh), k .vertex-room)
+
+-- marks of a running network that are as long as its columns
+pub running-keeping : {g : Network} → Running g → (K : List Bool) → length K ≡ length (g .low) → Keeping g K
+running-keeping run K e = record
+    { light = run .light; edge-room = run .edge-room; reserved-room = omega (arith, run .sound .formed .reserved-below, run .edge-room); long = e ∙ run .long }
+
+-- what a passing chain keeps can be written
+pub passing-keeping : {g : Network} → Running g → (t : List ℕ) (K : List Bool) → checkChain (g .remaining - 2) g t ≡ keeps K → Keeping g K
+passing-keeping {g} run t K e =
+    let m = bytes-meant (g .remaining - 2) g t K (omega (arith, run .left)) e in
+    running-keeping run K (passes-good (m .steps) (run .sound) (m .dropped) K (m .passes) .sized)
+
+-- ── the check of a chain by its steps ──
+module _ (network chain : List ℕ) where
+  pub chain-network-refused : (k : ℕ) → acceptNetwork network ≡ refused k → checkChainText network chain ≡ refused k
+  unfolding checkChainText andThen
+  chain-network-refused k e = rw e
+
+  module _ (g : Network) (e : acceptNetwork network ≡ answer g) where
+    pub chain-refused : (k : ℕ) → checkChain (g .remaining - 2) g chain ≡ refusedWith k → checkChainText network chain ≡ refused k
+    unfolding checkChainText andThen keptIn
+    chain-refused k h = rw (e, h)
+
+    pub chain-kept : (K : List Bool) → checkChain (g .remaining - 2) g chain ≡ keeps K → checkChainText network chain ≡ answer (keptOf g K)
+    unfolding checkChainText andThen keptIn
+    chain-kept K h = rw (e, h)

@@ -1,0 +1,172 @@
+-- The bytes of a chain and its meaning: what passes is the chain text of steps and an ending that pass, and the other way round.
+use mathlib.Core.Path.{_≡_, refl, sym, _∙_, ap}
+use mathlib.Core.Logic.{_↔_}
+use mathlib.Core.Bool.{Bool, true, false, cond}
+use mathlib.Core.List.{List, [], _∷_, _++_, map, append-nil}
+use Prim.Native.Nat.{ℕ, zero, suc, _+_, _-_, _≤_, _<_}
+use native.Mathlib.Omega.{arith}
+use lib.Dec.{leb, ltb, eqb}
+use lib.ListN.{length, drop, drop-of-length-le}
+use borrow.Author.Tests.{leb-true, le-leb, eq-eqb, lt-ltb}
+use Rattle.frame.specs.Table.{STEP, DROPPED, padded, bytesOf, widths, lineLength}
+use Rattle.frame.specs.Line.{isLine, fieldsOf, lineOf, Fits}
+use Rattle.frame.specs.Kinds.{stepOf, ofStep, droppedOf, ofDropped}
+use Rattle.frame.proofs.Lines.{length-line, line-is, line-rest, fields-found, line-back, line-fits}
+use Rattle.frame.proofs.Named.{step-back, dropped-back}
+use Rattle.texts.specs.Chains.{chainText}
+use Rattle.graph.specs.Split.{split, third, after}
+use Rattle.graph.specs.Chain.{stepRefusal, endRefusal, endKept, lift, Verdict, refused, keeps, liftVerdict, unless, check, StepByRule, EndingByRule, ByRules, ending, step}
+use Rattle.graph.specs.Sound.{Sound}
+use Rattle.graph.specs.State.{edgeLimit, vertexLimit}
+use Rattle.graph.specs.declared.Network.{Network}
+use Rattle.graph.specs.declared.Step.{Step}
+use Rattle.graph.proofs.Rules.{ruled-step}
+use Rattle.graph.proofs.Condition.{passes-ruled}
+use Rattle.thinning.specs.Running.{Running}
+use Rattle.thinning.specs.Verdicts.{stepIn, droppedIn, checkEnding, checkChain, lifted}
+use Rattle.thinning.specs.Plans.{inFrame}
+use Rattle.thinning.proofs.Chains.{ending-kept, chain-at-more, running-after, step-taken, v-below}
+
+-- ── verdicts that pass ──
+cond-keeps : (b : Bool) (w : Verdict) {K : List Bool} → cond b w (refused 1) ≡ keeps K → (b ≡ true) × (w ≡ keeps K)
+cond-keeps true w h = (refl, h)
+cond-keeps false w h = let z : _≡_ {A = ℕ} 0 1 = cc in absurd (omega arith)
+
+unless-keeps : (k : ℕ) (w : Verdict) {K : List Bool} → unless k w ≡ keeps K → (k ≡ 0) × (w ≡ keeps K)
+unfolding unless
+unless-keeps zero w h = (refl, h)
+unless-keeps (suc k) w h = let z : _≡_ {A = ℕ} 0 1 = cc in absurd (omega arith)
+
+lift-keeps : (g : Network) (t : Step) (w : Verdict) {K : List Bool} → liftVerdict g t w ≡ keeps K
+    → (L : List Bool) × (w ≡ keeps L) × (lift (t .x) (t .y) (third g t) L ≡ K)
+unfolding liftVerdict
+lift-keeps g t (refused k) h = let z : _≡_ {A = ℕ} 0 1 = cc in absurd (omega arith)
+lift-keeps g t (keeps L) h = (L, refl, cc)
+
+check-later : (g : Network) (t : Step) (ts : List Step) (d : ℕ) (K : List Bool) → check g (t ∷ ts) d ≡ keeps K
+    → (L : List Bool) × (check (after g t) ts d ≡ keeps L) × (lift (t .x) (t .y) (third g t) L ≡ K)
+unfolding check
+check-later g t ts d K h =
+    let a = cond-keeps (ltb 2 (g .remaining)) _ h in
+    let b = unless-keeps (stepRefusal g t) (liftVerdict g t (check (after g t) ts d)) (a .1) in
+    lift-keeps g t (check (after g t) ts d) (b .1)
+
+-- ── the line of a step, and of an ending ──
+step-line : (t : List ℕ) → isLine STEP t ≡ true → t ≡ lineOf STEP (ofStep (inFrame (stepIn t))) ++ drop (lineLength STEP) t
+step-line t h =
+    sym (line-back STEP t h)
+    ∙ ap (λ f. lineOf STEP f ++ drop (lineLength STEP) t) (sym (step-back (fieldsOf STEP t) (line-fits STEP t h)))
+
+ending-line : (t : List ℕ) → isLine DROPPED t ≡ true → length t ≤ lineLength DROPPED → t ≡ lineOf DROPPED (ofDropped (record { edge = droppedIn t }))
+ending-line t h l =
+    sym (line-back DROPPED t h)
+    ∙ ap (λ r. lineOf DROPPED (fieldsOf DROPPED t) ++ r) (drop-of-length-le t l)
+    ∙ append-nil (lineOf DROPPED (fieldsOf DROPPED t))
+    ∙ ap (lineOf DROPPED) (sym (dropped-back (fieldsOf DROPPED t) (line-fits DROPPED t h)))
+
+-- ── bytes that pass are a chain text whose meaning passes ──
+pub record Meant (g : Network) (t : List ℕ) (K : List Bool) : Type 0 where
+  pub steps : List Step
+  pub dropped : ℕ
+  pub text-is : t ≡ chainText (map inFrame steps) dropped
+  pub passes : check g steps dropped ≡ keeps K
+
+ending-meant : (g : Network) (t : List ℕ) (K : List Bool) → g .remaining ≡ 2 → checkEnding g t ≡ keeps K → Meant g t K
+unfolding checkEnding chainText check unless
+ending-meant g t K e h =
+    let a = cond-keeps (isLine DROPPED t) _ h in
+    let b = unless-keeps (endRefusal g (droppedIn t)) _ (a .1) in
+    let c = cond-keeps (leb (length t) (lineLength DROPPED)) (keeps (endKept g (droppedIn t))) (b .1) in
+    record {
+      steps = [];
+      dropped = droppedIn t;
+      text-is = ending-line t (a .0) (leb-true (length t) (lineLength DROPPED) (c .0));
+      passes = rw (eq-eqb (g .remaining) 2 e, b .0) (c .1);
+    }
+
+pub bytes-meant : (n : ℕ) (g : Network) (t : List ℕ) (K : List Bool) → g .remaining ≡ 2 + n → checkChain n g t ≡ keeps K → Meant g t K
+unfolding checkChain
+bytes-meant zero g t K e h = ending-meant g t K e h
+bytes-meant (suc n) g t K e h =
+    let s = stepIn t in
+    let a = cond-keeps (isLine STEP t) _ h in
+    let b = unless-keeps (stepRefusal g s) (liftVerdict g s (checkChain n (after g s) (drop (lineLength STEP) t))) (a .1) in
+    let c = lift-keeps g s (checkChain n (after g s) (drop (lineLength STEP) t)) (b .1) in
+    let m = bytes-meant n (after g s) (drop (lineLength STEP) t) (c .0) (fewer e) (c .1) in
+    record {
+      steps = s ∷ m .steps;
+      dropped = m .dropped;
+      text-is = step-line t (a .0) ∙ text m;
+      passes = more m (b .0) (c .2);
+    }
+  where
+    fewer : g .remaining ≡ 2 + suc n → after g (stepIn t) .remaining ≡ 2 + n
+    fewer e = unfold after split in omega arith
+
+    text : {L : List Bool} (m : Meant (after g (stepIn t)) (drop (lineLength STEP) t) L)
+        → lineOf STEP (ofStep (inFrame (stepIn t))) ++ drop (lineLength STEP) t ≡ chainText (map inFrame (stepIn t ∷ m .steps)) (m .dropped)
+    text m = unfold chainText in ap (λ r. lineOf STEP (ofStep (inFrame (stepIn t))) ++ r) (m .text-is)
+
+    more : {L : List Bool} (m : Meant (after g (stepIn t)) (drop (lineLength STEP) t) L) → stepRefusal g (stepIn t) ≡ 0
+        → lift (stepIn t .x) (stepIn t .y) (third g (stepIn t)) L ≡ K → check g (stepIn t ∷ m .steps) (m .dropped) ≡ keeps K
+    more m p q = unfold check unless liftVerdict in rw (lt-ltb 2 (g .remaining) (omega arith), p, m .passes) (ap keeps q)
+
+-- ── and the text of a chain that passes passes ──
+
+-- numbers of a running network fit their fields
+step-fits : (t : Step) → t .v < 65536 → t .x < 65536 → t .y < 65536 → Fits STEP (ofStep (inFrame t))
+unfolding Fits widths bytesOf padded
+step-fits t v x y = (v, (x, (y, (omega arith, (omega arith, tt)))))
+
+dropped-fits : (d : ℕ) → d < 65536 → Fits DROPPED (ofDropped (record { edge = d }))
+unfolding Fits widths bytesOf padded
+dropped-fits d h = (h, (omega arith, (omega arith, (omega arith, (omega arith, tt)))))
+
+ending-passes : (g : Network) (d : ℕ) (K : List Bool) → EndingByRule g d → d < 65536 → check g [] d ≡ keeps K
+    → checkEnding g (chainText [] d) ≡ keeps K
+unfolding chainText check
+ending-passes g d K r l h =
+    let f = ofDropped (record { edge = d }) in
+    let text = lineOf DROPPED f in
+    let e = sym (append-nil text) in
+    let is : isLine DROPPED text ≡ true = ap (isLine DROPPED) e ∙ line-is DROPPED f [] in
+    let found : fieldsOf DROPPED text ≡ f = ap (fieldsOf DROPPED) e ∙ fields-found DROPPED f [] (dropped-fits d l) in
+    let named : droppedIn text ≡ d = ap (λ f. droppedOf f .edge) found in
+    let k = cond-keeps (eqb (g .remaining) 2) _ h in
+    let u = unless-keeps (endRefusal g d) (keeps (endKept g d)) (k .1) in
+    ending-kept g text is (ap (endRefusal g) named ∙ u .0) (omega (arith, length-line DROPPED f)) ∙ ap (λ i. keeps (endKept g i)) named ∙ u .1
+
+-- a step's line in front of the rest of a chain
+module _ (t : Step) (fits : Fits STEP (ofStep (inFrame t))) (rest : List ℕ) where
+  line-names : t ≡ stepIn (lineOf STEP (ofStep (inFrame t)) ++ rest)
+  line-names = ap (λ f. record { v = stepOf f .v; x = stepOf f .x; y = stepOf f .y }) (sym (fields-found STEP (ofStep (inFrame t)) rest fits))
+
+step-passes : {g : Network} → Running g → (t : Step) (rest : List ℕ) (L : List Bool) → 2 < g .remaining → StepByRule g t
+    → checkChain (after g t .remaining - 2) (after g t) rest ≡ keeps L
+    → checkChain (g .remaining - 2) g (lineOf STEP (ofStep (inFrame t)) ++ rest) ≡ keeps (lift (t .x) (t .y) (third g t) L)
+unfolding lifted
+step-passes {g} run t rest L more r h =
+    let passed = ruled-step g t r in
+    let w = step-taken run more t passed in
+    let fits = step-fits t (omega (arith, v-below run more t passed, run .vertex-room)) (omega (arith, w .at .four .x<, run .edge-room)) (omega (arith, w .at .four .y<, run .edge-room)) in
+    let text = lineOf STEP (ofStep (inFrame t)) ++ rest in
+    chain-at-more g text 0 more (line-is STEP (ofStep (inFrame t)) rest) t (line-names t fits rest) (third g t) (lineLength STEP) (after g t) passed refl refl (omega arith)
+    ∙ ap (λ l. lifted (t .x) (t .y) (third g t) (checkChain (after g t .remaining - 2) (after g t) l)) (line-rest STEP (ofStep (inFrame t)) rest)
+    ∙ ap (lifted (t .x) (t .y) (third g t)) h
+
+pub meaning-passes : (ts : List Step) {g : Network} (d : ℕ) → Running g → (K : List Bool) → check g ts d ≡ keeps K
+    → checkChain (g .remaining - 2) g (chainText (map inFrame ts) d) ≡ keeps K
+unfolding chainText
+meaning-passes [] {g} d run K h = go (passes-ruled [] (run .sound) d K h)
+  where
+    go : ByRules g [] d → checkChain (g .remaining - 2) g (chainText [] d) ≡ keeps K
+    go (ending two r) = let e : g .remaining - 2 ≡ 0 = omega arith in
+        rw e (unfold checkChain in ending-passes g d K r (omega (arith, r .one .number, run .edge-room)) h)
+meaning-passes (t ∷ ts) {g} d run K h = go (passes-ruled (t ∷ ts) (run .sound) d K h) (λ run L. meaning-passes ts d run L)
+  where
+    go : ByRules g (t ∷ ts) d
+        → (Running (after g t) → (L : List Bool) → check (after g t) ts d ≡ keeps L → checkChain (after g t .remaining - 2) (after g t) (chainText (map inFrame ts) d) ≡ keeps L)
+        → checkChain (g .remaining - 2) g (lineOf STEP (ofStep (inFrame t)) ++ chainText (map inFrame ts) d) ≡ keeps K
+    go (step more r rest) ih =
+        let w = check-later g t ts d K h in
+        step-passes run t (chainText (map inFrame ts) d) (w .0) more r (ih (running-after run more t (ruled-step g t r)) (w .0) (w .1)) ∙ ap keeps (w .2)

@@ -1,0 +1,35 @@
+-- Writing the kept text of marked edges.
+use mathlib.Core.Path.{_≡_, refl, sym, _∙_, ap, ap₂}
+use mathlib.Core.Bool.{Bool}
+use mathlib.Core.List.{List}
+use Prim.Native.Nat.{ℕ, _≤_, _<_}
+use native.Mathlib.Omega.{arith}
+use lib.ListN.{length}
+use lib.IntN.{ℤ, natAbs}
+use mir.Syntax.{w64}
+use mir.Val.{toZ, ofZ}
+use Rattle.frame.specs.Answer.{answer, over, replyOf, after}
+use Rattle.frame.specs.declared.reply.Reply.the-variants.{Refused, Done}
+use Rattle.frame.proofs.Answers.{fits, short}
+use Rattle.texts.specs.Kept.{keptEdges, keptText, keptLength}
+use Rattle.texts.proofs.KeptTexts.{length-kept}
+use Rattle.graph.specs.Network.{keptCost, allButReserved}
+use Rattle.graph.specs.declared.Network.{Network}
+use Rattle.thinning.specs.Running.{Keeping}
+use Rattle.thinning.specs.Services.{keptOf}
+use Rattle.thinning.proofs.Totals.{read-back, kept-small, reserved-small}
+
+module _ {g : Network} {K : List Bool} (k : Keeping g K) where
+  -- how long the text is
+  pub kept-size : (n : ℕ) → n ≡ keptLength (length (keptEdges (g .edges) K)) → n ≡ length (keptOf g K)
+  unfolding keptOf
+  kept-size n e = e ∙ sym (length-kept (keptEdges (g .edges) K) (keptCost g K) (allButReserved g))
+
+  -- the costs as the code hands them over
+  module _ (kept unreserved : ℤ) (ek : kept ≡ keptCost g K) (eu : unreserved ≡ allButReserved g) where
+    pub kept-text : keptText (keptEdges (g .edges) K) (toZ w64 (ofZ w64 kept)) (toZ w64 (ofZ w64 unreserved)) ≡ keptOf g K
+    unfolding keptOf
+    kept-text =
+        ap₂ (keptText (keptEdges (g .edges) K))
+        (read-back kept (omega (arith, ap natAbs ek, kept-small g K (k .light))) ∙ ek)
+        (read-back unreserved (omega (arith, ap natAbs eu, reserved-small g (k .edge-room) (k .reserved-room) (k .light))) ∙ eu)

@@ -1,0 +1,100 @@
+-- Sums of costs, edge by edge, and that they fit.
+use mathlib.Core.Path.{_≡_, refl, sym, _∙_, ap}
+use mathlib.Core.Logic.{_≢_}
+use mathlib.Core.Bool.{Bool, true, false, not, cond}
+use mathlib.Core.List.{List}
+use Prim.Native.Nat.{ℕ, zero, suc, _+_, _^_, _≤_, _<_}
+use native.Mathlib.Omega.{arith}
+use native.Mathlib.Decide.{ℕ-discrete}
+use lib.Dec.{eqb}
+use lib.ListN.{length, getD, set, replicate, getD-replicate, length-replicate}
+use lib.Seq.{getD-set-same, getD-set-other}
+use lib.IntN.{ℤ, pos, negsuc, natAbs, _+ℤ_}
+use lib.Signed.{mag}
+use mir.Syntax.{w64}
+use mir.Val.{SFits, toZ, ofZ}
+use mir.Facts.{toZ-ofZ}
+use Rattle.graph.specs.Fold.{fold, sum, sumℤ}
+use Rattle.graph.specs.Network.{costOf, costOver, kept, keptCost, allButReserved}
+use Rattle.graph.specs.Sound.{weight, Light}
+use Rattle.graph.specs.State.{edgeLimit}
+use Rattle.graph.specs.declared.Network.{Network}
+use Rattle.graph.proofs.Bools.{eqb-self, eqb-no}
+use Rattle.graph.proofs.Sums.{fold-more, fold-ext, sum-le, sum-fewer}
+use Rattle.graph.proofs.Integers.{P, N, plus, eqℤ, size-plus, sumℤ-size}
+
+plus-zero : (a : ℤ) → a +ℤ pos 0 ≡ a
+unfolding P N
+plus-zero a = eqℤ _ _ (omega (arith, plus a (pos 0)))
+
+-- the cost of the marked edges among the first e
+abbrev pub costAmong : Network → List Bool → ℕ → ℤ
+costAmong g K e = sumℤ e (λ i. cond (kept K i) (costOf g i) (pos 0))
+
+module _ (g : Network) (K : List Bool) where
+  pub among-none : costAmong g K 0 ≡ pos 0
+  unfolding fold
+  among-none = refl
+
+  pub among-marked : (e : ℕ) → kept K e ≡ true → costAmong g K (e + 1) ≡ costAmong g K e +ℤ costOf g e
+  among-marked e h = fold-more _+ℤ_ (pos 0) e (λ i. cond (kept K i) (costOf g i) (pos 0)) ∙ rw h
+
+  pub among-unmarked : (e : ℕ) → kept K e ≡ false → costAmong g K (e + 1) ≡ costAmong g K e
+  among-unmarked e h = fold-more _+ℤ_ (pos 0) e (λ i. cond (kept K i) (costOf g i) (pos 0)) ∙ rw h (plus-zero (costAmong g K e))
+
+  pub among-small : (e : ℕ) → e ≤ g .edges → Light g → natAbs (costAmong g K e) < 2 ^ 62
+  unfolding weight
+  among-small e l h =
+      omega (
+        arith,
+        sumℤ-size e (λ i. cond (kept K i) (costOf g i) (pos 0)),
+        sum-le e (λ i. natAbs (cond (kept K i) (costOf g i) (pos 0))) (λ i. natAbs (costOf g i)) (λ i k. less (kept K i) (costOf g i)),
+        sum-fewer e (g .edges) (λ i. natAbs (costOf g i)) l,
+      )
+    where
+      less : (t : Bool) (c : ℤ) → natAbs (cond t c (pos 0)) ≤ natAbs c
+      less true c = omega arith
+      less false c = omega arith
+
+  pub among-all : costAmong g K (g .edges) ≡ keptCost g K
+  unfolding costOver
+  among-all = refl
+
+  pub kept-small : Light g → natAbs (keptCost g K) < 2 ^ 62
+  kept-small h = omega (arith, ap natAbs among-all, among-small (g .edges) (omega arith) h)
+
+-- all marks but the reserved one
+pub all-marks : (g : Network) → g .edges ≤ edgeLimit → g .reserved < edgeLimit
+    → keptCost g (set (replicate edgeLimit true) (g .reserved) false) ≡ allButReserved g
+unfolding costOver
+all-marks g room r =
+    fold-ext _+ℤ_ (pos 0) (g .edges) _ _ (λ e l. ap (λ t. cond t (costOf g e) (pos 0)) (mark e (omega arith)))
+  where
+    mark : (e : ℕ) → e < edgeLimit → kept (set (replicate edgeLimit true) (g .reserved) false) e ≡ not (eqb e (g .reserved))
+    mark e l = elim (ℕ-discrete e (g .reserved)) [
+      | yes q ↦ rw (q, eqb-self (g .reserved)) (getD-set-same (replicate edgeLimit true) (g .reserved) false false (rw length-replicate r))
+      | no q ↦ rw (eqb-no q) (getD-set-other (replicate edgeLimit true) (g .reserved) e false false q ∙ getD-replicate edgeLimit e true false l)
+    ]
+
+pub reserved-small : (g : Network) → g .edges ≤ edgeLimit → g .reserved < edgeLimit → Light g → natAbs (allButReserved g) < 2 ^ 62
+reserved-small g room r h = omega (arith, ap natAbs (all-marks g room r), kept-small g (set (replicate edgeLimit true) (g .reserved) false) h)
+
+-- ── sums that fit ──
+
+smaller : (c : ℤ) (k : ℕ) → natAbs c < k → mag c < k
+smaller (pos n) k h = h
+smaller (negsuc n) k h = omega arith
+
+pub read-back : (c : ℤ) → natAbs c < 2 ^ 63 → toZ w64 (ofZ w64 c) ≡ c
+read-back c h = toZ-ofZ (record { sfits = smaller c (2 ^ 63) h })
+
+-- sizes below 2 to the power 62 leave room for a sum
+module _ (a b : ℤ) (ha : natAbs a < 2 ^ 62) (hb : natAbs b < 2 ^ 62) where
+  small : natAbs (a +ℤ b) < 2 ^ 63
+  small = omega (arith, size-plus a b)
+
+  pub sum-fits : SFits w64 (toZ w64 (ofZ w64 a) +ℤ toZ w64 (ofZ w64 b))
+  sum-fits = rw (read-back a (omega arith), read-back b (omega arith)) (record { sfits = smaller (a +ℤ b) (2 ^ 63) small })
+
+  pub sum-is : toZ w64 (ofZ w64 (toZ w64 (ofZ w64 a) +ℤ toZ w64 (ofZ w64 b))) ≡ a +ℤ b
+  sum-is = rw (read-back a (omega arith), read-back b (omega arith)) (read-back (a +ℤ b) small)

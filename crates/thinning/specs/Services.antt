@@ -1,0 +1,85 @@
+-- What the services answer.
+use mathlib.Core.Bool.{Bool, _&&_}
+use mathlib.Core.List.{List}
+use mathlib.Core.Path.{_≡_}
+use Prim.Native.Nat.{ℕ, _-_, _≤_}
+use lib.ListN.{length, take}
+use Rattle.frame.specs.Answer.{Answer, refused, answer, andThen, given, roomIn}
+use Rattle.texts.specs.Limits.{unless}
+use Rattle.texts.specs.Kept.{keptEdges, keptText}
+use Rattle.loading.specs.Loading.{loadNetwork}
+use Rattle.graph.specs.Network.{keptCost, allButReserved}
+use Rattle.graph.specs.Cut.{networkRefusal}
+use Rattle.graph.specs.Chain.{Verdict, refused as refusedWith, keeps}
+use Rattle.graph.specs.Plan.{planKept}
+use Rattle.graph.specs.State.{vertexLimit}
+use Rattle.graph.specs.declared.Network.{Network}
+use Rattle.thinning.specs.declared.network.Acceptance.{Acceptance}
+use Rattle.thinning.specs.declared.network.Acceptance.the-variants.{Accepted, Refused}
+use Rattle.thinning.specs.declared.planner.Planned.{Planned}
+use Rattle.thinning.specs.declared.planner.Planned.the-variants as planned
+use Rattle.thinning.specs.Verdicts.{checkChain}
+use Rattle.thinning.specs.Plans.{planChain, chainLength}
+use Rattle.thinning.specs.Running.{Keeping}
+
+-- ── check a network ──
+
+-- the network of an accepted text, or the text's first refusal
+unfoldable pub acceptNetwork : List ℕ → Answer Network
+acceptNetwork t = andThen (loadNetwork t) (λ g. unless (networkRefusal g) (answer g))
+
+unfoldable pub acceptanceOf : Answer Network → Acceptance
+acceptanceOf (refused k) = Refused k
+acceptanceOf (answer g) = Accepted
+
+-- ── check a chain ──
+
+-- the kept text of marked edges: the edges, their cost, and that of all edges but the reserved one, at the network's own costs
+unfoldable pub keptOf : Network → List Bool → List ℕ
+keptOf g K = keptText (keptEdges (g .edges) K) (keptCost g K) (allButReserved g)
+
+unfoldable pub keptIn : Network → Verdict → Answer (List ℕ)
+keptIn g (refusedWith k) = refused k
+keptIn g (keeps K) = answer (keptOf g K)
+
+-- the kept text of a proposed chain, or the first refusal
+unfoldable pub checkChainText : List ℕ → List ℕ → Answer (List ℕ)
+checkChainText network chain = andThen (acceptNetwork network) (λ g. keptIn g (checkChain (g .remaining - 2) g chain))
+
+-- ── plan ──
+
+-- the two texts of a plan
+pub record Texts : Type 0 where
+  pub chain : List ℕ
+  pub kept : List ℕ
+
+-- the texts of marked edges, with the plan's chain
+unfoldable pub textsOf : Network → List Bool → Texts
+textsOf g K = record { chain = planChain (g .remaining - 2) g; kept = keptOf g K }
+
+-- the plan of a network text, or the text's first refusal
+unfoldable pub planText : List ℕ → Answer Texts
+planText network = andThen (acceptNetwork network) (λ g. answer (textsOf g (planKept (g .remaining - 2) g)))
+
+-- whether both buffers have room
+unfoldable pub planRoom : List ℕ → List ℕ → Texts → Bool
+planRoom chain kept t = roomIn chain (t .chain) && roomIn kept (t .kept)
+
+-- the same once the buffers are known: 13 if either is short
+unfoldable pub textsGiven : Network → List Bool → List ℕ → List ℕ → Answer Texts
+textsGiven g K chain kept = given (planRoom chain kept) (answer (textsOf g K))
+
+unfoldable pub planGiven : List ℕ → List ℕ → List ℕ → Answer Texts
+planGiven network chain kept = given (planRoom chain kept) (planText network)
+
+-- the chain of a plan stands at the start of a buffer, and its marks can be written
+pub record Planning (g : Network) (K : List Bool) (planned : List ℕ) : Type 0 where
+  pub keeping : Keeping g K
+  pub several : 2 ≤ g .remaining
+  pub vertex-room : g .remaining ≤ vertexLimit
+  pub chain-room : chainLength (g .remaining - 2) ≤ length planned
+  pub chain-is : take (chainLength (g .remaining - 2)) planned ≡ planChain (g .remaining - 2) g
+
+unfoldable pub plannedOf : Answer Texts → Planned
+plannedOf (refused k) = planned.Refused k
+plannedOf (answer t) = planned.Written (length (t .chain)) (length (t .kept))

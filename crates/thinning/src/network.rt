@@ -1,0 +1,58 @@
+// The network check.
+use flow::every_cut_four;
+use graph::Network;
+use loading::Loaded;
+use loading::load;
+ghost use mathlib.Core.Path.{_≡_};
+ghost use Rattle.graph.specs.Cut.{networkRefusal};
+ghost use Rattle.loading.specs.Loading.{loadedOf};
+ghost use Rattle.loading.proofs.Reading.{Known};
+ghost use Rattle.thinning.specs.Services.{acceptNetwork, acceptanceOf};
+use super::refusals::CUT;
+use super::refusals::DEGREE;
+
+// What the network check answers.
+pub enum Acceptance {
+    Accepted,
+    Refused(u8),
+}
+
+// Refusals 6 and 7 of a network that reads, or 0.
+fn network_refusal(network: Network) -> u8
+    requires { ⌜ Known network ⌝ }
+    ensures { λ r. ⌜ r ≡ networkRefusal network ⌝ }
+{
+    if !network.four_each() {
+        return DEGREE;
+    }
+    if !every_cut_four(network) {
+        return CUT;
+    }
+    0
+}
+
+// The network of an accepted text, or the text's first refusal.
+pub fn accept(text: &[u8]) -> Loaded
+    ensures { λ r. ⌜ loadedOf r ≡ acceptNetwork (now (text .entry)) ⌝ }
+{
+    let loaded = load(text);
+    let refusal = loaded.refusal;
+    if 0 < refusal {
+        return loaded;
+    }
+    let network = loaded.network;
+    let refusal = network_refusal(network);
+    Loaded { refusal, network }
+}
+
+// Checks a network text: refusals 1 to 7 in order, or accepted.
+pub fn check_network(text: &[u8]) -> Acceptance
+    ensures { λ r. ⌜ r ≡ acceptanceOf (acceptNetwork (now (text .entry))) ⌝ }
+{
+    let accepted = accept(text);
+    let refusal = accepted.refusal;
+    if 0 < refusal {
+        return Acceptance::Refused(refusal);
+    }
+    Acceptance::Accepted
+}
