@@ -70,33 +70,36 @@ module _ (network : List ℕ) (g : Network) (e : acceptNetwork network ≡ answe
 
   passing : (chain : List ℕ) → RuledText g chain → PassesText network chain
   passing chain r =
-      let w = ruled-passes (r .by-rules) in
-      ( keptOf g (w .0)
-      , chain-kept network chain g e (w .0) (ap (checkChain (g .remaining - 2) g) (r .text-is) ∙ meaning-passes (r .steps) (r .dropped) running (w .0) (w .1)) )
+      let w = ruled-passes (r .by-rules) in (
+        keptOf g (w .0),
+        chain-kept network chain g e (w .0) (ap (checkChain (g .remaining - 2) g) (r .text-is) ∙ meaning-passes (r .steps) (r .dropped) running (w .0) (w .1)),
+      )
 
   good-text : (chain text : List ℕ) → checkChainText network chain ≡ answer text → GoodText g text
   good-text chain text h =
       let f = found-in chain text h in
       let m = meant f in
-      record
-        { marks = f .marks
-        ; text-is = f .text-is
-        ; lists = listed (g .edges) (f .marks)
-        ; good = passes-good (m .steps) (running .sound) (m .dropped) (f .marks) (m .passes) }
+      record {
+        marks = f .marks;
+        text-is = f .text-is;
+        lists = listed (g .edges) (f .marks);
+        good = passes-good (m .steps) (running .sound) (m .dropped) (f .marks) (m .passes);
+      }
 
   plan-passes : checkChainText network (textsOf g (planKept (g .remaining - 2) g) .chain) ≡ answer (textsOf g (planKept (g .remaining - 2) g) .kept)
   unfolding textsOf planChain
   plan-passes =
       let n = g .remaining - 2 in
       chain-kept network (planChain n g) g e (planKept n g)
-        (meaning-passes (planSteps n g) (planDrop n g) running (planKept n g) (plan-checked n (running .sound) (omega (arith, running .left))))
+      (meaning-passes (planSteps n g) (planDrop n g) running (planKept n g) (plan-checked n (running .sound) (omega (arith, running .left))))
 
   plan-is : planText network ≡ answer (textsOf g (planKept (g .remaining - 2) g))
   unfolding planText andThen
   plan-is = rw e
 
   pub text-condition : TextCondition network g
-  text-condition = record
-    { rules = λ chain. (ruled chain, passing chain)
-    ; good = good-text
-    ; planned = (textsOf g (planKept (g .remaining - 2) g), plan-is, plan-passes) }
+  text-condition = record {
+    rules = λ chain. (ruled chain, passing chain);
+    good = good-text;
+    planned = (textsOf g (planKept (g .remaining - 2) g), plan-is, plan-passes);
+  }

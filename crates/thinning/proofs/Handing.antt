@@ -93,7 +93,7 @@ module _ (a : Answer Texts) (chain kept : List ℕ) where
 
   pub handed-over : (t : Texts) → a ≡ answer t
       → (planned.Written (length (t .chain)) (length (t .kept)) ≡ plannedOf a)
-        × ((over (t .chain) chain ≡ filled (λ t. t .chain) a chain) × (over (t .kept) kept ≡ filled (λ t. t .kept) a kept))
+      × ((over (t .chain) chain ≡ filled (λ t. t .chain) a chain) × (over (t .kept) kept ≡ filled (λ t. t .kept) a kept))
   unfolding plannedOf
   handed-over t e = (rw e, (sym (filled-answer (λ t. t .chain) a chain t e), sym (filled-answer (λ t. t .kept) a kept t e)))
 
@@ -120,12 +120,13 @@ module _ (network chain kept : List ℕ) where
       let run = accepted-running network g e in
       let n = g .remaining - 2 in
       let size = chain-size n g in
-      record
-        { keeping = running-keeping run K (ap length q ∙ passes-good (planSteps n g) (run .sound) (planDrop n g) (planKept n g) (plan-checked n (run .sound) (omega (arith, run .left))) .sized)
-        ; several = run .left
-        ; vertex-room = remaining-few network g e
-        ; chain-room = rw w (omega (arith, length-append (planChain n g) (drop (length (planChain n g)) old), size))
-        ; chain-is = rw w (take-at (planChain n g) (drop (length (planChain n g)) old) (chainLength n) size) }
+      record {
+        keeping = running-keeping run K (ap length q ∙ passes-good (planSteps n g) (run .sound) (planDrop n g) (planKept n g) (plan-checked n (run .sound) (omega (arith, run .left))) .sized);
+        several = run .left;
+        vertex-room = remaining-few network g e;
+        chain-room = rw w (omega (arith, length-append (planChain n g) (drop (length (planChain n g)) old), size));
+        chain-is = rw w (take-at (planChain n g) (drop (length (planChain n g)) old) (chainLength n) size);
+      }
 
 -- the chain copied from the start of the buffer that it was planned in
 pub copied-chain : {g : Network} {K : List Bool} {planned : List ℕ} → Planning g K planned → (old : List ℕ) (n : ℕ) → n ≡ chainLength (g .remaining - 2) → (out : List ℕ)

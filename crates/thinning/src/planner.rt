@@ -1,8 +1,8 @@
 // The planner over texts.
 use super::checker::put_kept;
 use super::network::accept;
-use super::steps::plan_into;
 use super::refusals::SHORT;
+use super::steps::plan_into;
 use frame::DROPPED;
 use frame::STEP;
 use frame::length_of;

@@ -42,15 +42,15 @@ returns c =
     let k = c .before in
     let a = entry k in
     handed-refused _ (a .args .chain .now) (a .args .kept .now) SHORT
-      (short-chain (a .args .network) (a .args .plan .marks) (a .args .chain .now) (a .args .kept .now) (omega (arith, k .before .before .chain-length .ensures, c .if1 .taken)))
+    (short-chain (a .args .network) (a .args .plan .marks) (a .args .chain .now) (a .args .kept .now) (omega (arith, k .before .before .chain-length .ensures, c .if1 .taken)))
 
 returns-2 : tie.Need-returns-2
 returns-2 c =
     let k = c .before .before in
     let a = entry k in
     handed-refused _ (a .args .chain .now) (a .args .kept .now) SHORT
-      (short-kept (a .args .network) (a .args .plan .marks) (a .args .chain .now) (a .args .kept .now)
-        (omega (arith, kept-size (a .pre .keeping) (k .kept-length .result) (k .kept-length .ensures), c .if2 .taken)))
+    (short-kept (a .args .network) (a .args .plan .marks) (a .args .chain .now) (a .args .kept .now)
+    (omega (arith, kept-size (a .pre .keeping) (k .kept-length .result) (k .kept-length .ensures), c .if2 .taken)))
 
 slice-aggregate-copy : tie.Need-slice-aggregate-copy
 slice-aggregate-copy c = let k = c .before .before .before in sym (copied-size k)
@@ -79,11 +79,14 @@ returns-3 c =
     let l : length (keptOf (a .args .network) (a .args .plan .marks)) ≤ length (a .args .kept .now) = omega (arith, size, e .if2 .left) in
     let m : chainLength (a .args .network .remaining - 2) ≤ length (a .args .chain .now) = omega (arith, k .before .before .chain-length .ensures, e .before .if1 .left) in
     let h = handed-over _ (a .args .chain .now) (a .args .kept .now) (textsOf (a .args .network) (a .args .plan .marks))
-              (both-fit (a .args .network) (a .args .plan .marks) (a .args .chain .now) (a .args .kept .now) m l) in
-    let f = fits (answer (keptOf (a .args .network) (a .args .plan .marks))) (a .args .kept .now) _ refl l in
-    ( ap₂ Written (k .before .before .chain-length .ensures ∙ sym (chain-size (a .args .network .remaining - 2) (a .args .network))) size ∙ h .0
-    , ( copied k (q .copy .ensures .1) ∙ h .1 .0
-      , p .put-kept .ensures .1 ∙ sym (f .1) ∙ h .1 .1 ) )
+    (both-fit (a .args .network) (a .args .plan .marks) (a .args .chain .now) (a .args .kept .now) m l) in
+    let f = fits (answer (keptOf (a .args .network) (a .args .plan .marks))) (a .args .kept .now) _ refl l in (
+      ap₂ Written (k .before .before .chain-length .ensures ∙ sym (chain-size (a .args .network .remaining - 2) (a .args .network))) size ∙ h .0,
+      (
+        copied k (q .copy .ensures .1) ∙ h .1 .0,
+        p .put-kept .ensures .1 ∙ sym (f .1) ∙ h .1 .1,
+      ),
+    )
 
 pub hand-over-spec : {M : Type 1} → statement M
 hand-over-spec =

@@ -36,7 +36,7 @@ hand-over-requires c κs =
     let q = p .before .before .before .before in
     let a = q .before .before .before .before in
     plan-ready (a .args .network .now) (a .args .chain .now) (a .args .kept .now) _ (loaded-zero _ _ (q .accept .ensures) (p .before .before .before .if1 .left))
-      _ (p .plan-into .ensures .0) _ _ refl (p .plan-into .ensures .1)
+    _ (p .plan-into .ensures .0) _ _ refl (p .plan-into .ensures .1)
 
 same-length : tie.Need-same-length
 same-length c = search needs
@@ -50,10 +50,13 @@ returns-2 c =
     let p = h .before .before .before .before .before in
     let q = p .before .before .before .before in
     let a = q .before .before .before .before in
-    let e = plan-given (a .args .network .now) (a .args .chain .now) (a .args .kept .now) _ (loaded-zero _ _ (q .accept .ensures) (p .before .before .before .if1 .left)) _ (p .plan-into .ensures .0) in
-    ( h .hand-over .ensures .0 ∙ ap plannedOf e
-    , ( h .hand-over .ensures .1 .0 ∙ ap (λ w. filled (λ t. t .chain) w (a .args .chain .now)) e
-      , h .hand-over .ensures .1 .1 ∙ ap (λ w. filled (λ t. t .kept) w (a .args .kept .now)) e ) )
+    let e = plan-given (a .args .network .now) (a .args .chain .now) (a .args .kept .now) _ (loaded-zero _ _ (q .accept .ensures) (p .before .before .before .if1 .left)) _ (p .plan-into .ensures .0) in (
+      h .hand-over .ensures .0 ∙ ap plannedOf e,
+      (
+        h .hand-over .ensures .1 .0 ∙ ap (λ w. filled (λ t. t .chain) w (a .args .chain .now)) e,
+        h .hand-over .ensures .1 .1 ∙ ap (λ w. filled (λ t. t .kept) w (a .args .kept .now)) e,
+      ),
+    )
 
 pub plan-spec : {M : Type 1} → statement M
 plan-spec =
