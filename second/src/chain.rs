@@ -1,0 +1,154 @@
+//! The planner, the chain checker, and the kept edges found by going back.
+
+use crate::lines::Lines;
+use crate::network::{read_accepted, Method};
+use crate::refusal::{
+    Refusal, BAD_DROP, NOT_ADMISSIBLE, NOT_PARTNERS, NOT_RESERVED_END, X_CHEAPER,
+};
+use crate::texts::{read_ending, read_step, write_chain, write_kept, Chain, Kept, Network, Step};
+use crate::working::Working;
+
+/// What the planner writes.
+#[derive(Clone, Debug, PartialEq, Eq)]
+pub struct Plan {
+    /// The chain text.
+    pub chain: Vec<u8>,
+    /// The kept text.
+    pub kept: Vec<u8>,
+}
+
+/// The edge numbers that a step leaves behind for going back.
+#[derive(Clone, Copy, Debug)]
+struct Trace {
+    x: usize,
+    y: usize,
+    z: usize,
+}
+
+/// Plans the network of a text.
+pub fn plan_by(text: &[u8], method: Method) -> Result<Plan, Refusal> {
+    let network = read_accepted(text, method)?;
+    let (chain, kept) = plan_network(&network, method);
+    Ok(Plan {
+        chain: write_chain(network.vertices, &chain)?,
+        kept: write_kept(&kept),
+    })
+}
+
+/// Plans an accepted network.
+pub fn plan_network(network: &Network, method: Method) -> (Chain, Kept) {
+    let mut working = Working::new(network);
+    let mut steps = Vec::new();
+    let mut traces = Vec::new();
+    while working.vertices_left() > 2 {
+        let ends = working.reserved_ends();
+        let v = ends.0.max(ends.1);
+        let mut admissible = working
+            .partners(v)
+            .into_iter()
+            .filter(|&partner| working.admissible(v, partner, method));
+        let (Some(lower), Some(higher)) = (admissible.next(), admissible.next()) else {
+            panic!("Lemma 8: two of three partners are admissible");
+        };
+        let (x, y) = if working.cost(lower) >= working.cost(higher) {
+            (lower, higher)
+        } else {
+            (higher, lower)
+        };
+        let z = working.split(v, x, y);
+        steps.push(Step {
+            v: as_number(v),
+            x: as_number(x),
+            y: as_number(y),
+        });
+        traces.push(Trace { x, y, z });
+    }
+    let last_three = working.partners(working.reserved_ends().0);
+    let dropped = *last_three
+        .iter()
+        .max_by_key(|&&edge| (working.cost(edge), edge))
+        .expect("three edges are left");
+    let kept = go_back(network, &last_three, dropped, &traces);
+    let chain = Chain {
+        steps,
+        dropped: as_number(dropped),
+    };
+    (chain, kept)
+}
+
+/// Checks a chain over the network of a text and gives its kept text.
+pub fn check_chain_by(
+    network_text: &[u8],
+    chain_text: &[u8],
+    method: Method,
+) -> Result<Vec<u8>, Refusal> {
+    let network = read_accepted(network_text, method)?;
+    let mut working = Working::new(&network);
+    let mut lines = Lines::new(chain_text);
+    let mut traces = Vec::new();
+    while working.vertices_left() > 2 {
+        let step = read_step(&mut lines)?;
+        check_step(&working, step, method)?;
+        let (x, y) = (usize::from(step.x), usize::from(step.y));
+        let z = working.split(step.v.into(), x, y);
+        traces.push(Trace { x, y, z });
+    }
+    let dropped = usize::from(read_ending(&mut lines)?);
+    let last_three = working.partners(working.reserved_ends().0);
+    let dearest = last_three.iter().map(|&edge| working.cost(edge)).max();
+    if !last_three.contains(&dropped) || Some(working.cost(dropped)) < dearest {
+        return Err(BAD_DROP);
+    }
+    lines.finish()?;
+    Ok(write_kept(&go_back(
+        &network,
+        &last_three,
+        dropped,
+        &traces,
+    )))
+}
+
+/// Whether a step keeps the rules: refusals 8 to 11 in their order.
+pub fn check_step(working: &Working, step: Step, method: Method) -> Result<(), Refusal> {
+    let v = usize::from(step.v);
+    let (x, y) = (usize::from(step.x), usize::from(step.y));
+    let ends = working.reserved_ends();
+    if v != ends.0 && v != ends.1 {
+        return Err(NOT_RESERVED_END);
+    }
+    let partners = working.partners(v);
+    if !partners.contains(&x) || !partners.contains(&y) || x == y {
+        return Err(NOT_PARTNERS);
+    }
+    if !working.admissible(v, x, method) || !working.admissible(v, y, method) {
+        return Err(NOT_ADMISSIBLE);
+    }
+    if working.cost(x) < working.cost(y) {
+        return Err(X_CHEAPER);
+    }
+    Ok(())
+}
+
+/// The kept edges of a chain by rule, with their cost and the total.
+fn go_back(network: &Network, last_three: &[usize], dropped: usize, traces: &[Trace]) -> Kept {
+    let mut is_kept = vec![false; network.edges.len()];
+    for &edge in last_three {
+        is_kept[edge] = edge != dropped;
+    }
+    for trace in traces.iter().rev() {
+        is_kept[trace.y] = true;
+        is_kept[trace.x] = !is_kept[trace.z];
+    }
+    let kept_numbers = (0..is_kept.len()).filter(|&edge| is_kept[edge]);
+    let reserved_cost = network.edges[network.reserved].cost;
+    Kept {
+        cost: kept_numbers.clone().map(|k| network.edges[k].cost).sum(),
+        edges: kept_numbers.map(as_number).collect(),
+        total: network.edges.iter().map(|edge| edge.cost).sum::<i64>() - reserved_cost,
+    }
+}
+
+/// A vertex or an edge as the number in a frame.
+fn as_number(place: usize) -> u16 {
+    u16::try_from(place).expect("numbers of vertices and edges have two bytes")
+}

@@ -1,0 +1,21 @@
+//! Pseudo-random networks, texts, chains and lists to compare answers on.
+//!
+//! Everything follows from the seed of a [`Rng`].
+
+mod chains;
+mod costs;
+mod damage;
+mod lists;
+mod meanings;
+mod networks;
+mod rng;
+
+pub use chains::{aimed_chain, chain_by_rule, changed_chain, Aim, Aimed};
+pub use costs::CostStyle;
+pub use damage::{damage, Damage};
+pub use lists::{aimed_list, list, list_of, ListStyle};
+pub use meanings::{chain_columns, list_meaning, network_columns, ChainColumns, NetworkColumns};
+pub use networks::{
+    aimed_network, dress, network, network_of, size, text, Family, NetworkAim, Shapeless,
+};
+pub use rng::Rng;

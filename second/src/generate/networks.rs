@@ -1,0 +1,428 @@
+//! Families of networks: accepted ones, and ones that the check refuses.
+
+use super::{damage, CostStyle, Rng};
+use crate::cuts::Multigraph;
+use crate::lines::{EDGE, HEAD};
+use crate::refusal::{
+    Refusal, BAD_COST, BAD_EDGE, BAD_RESERVED, BAD_VERTEX_COUNT, NOT_FOUR_REGULAR, SMALL_CUT,
+};
+use crate::texts::{write_network, Edge, Network, COST_LIMIT, MOST_VERTICES};
+
+/// A count of vertices: mostly small, now and then up to the limit.
+pub fn size(rng: &mut Rng) -> usize {
+    let most = match rng.below(100) {
+        0..60 => 10,
+        60..85 => 24,
+        85..97 => 64,
+        _ => MOST_VERTICES,
+    };
+    rng.between(2, most)
+}
+
+/// A family of accepted networks.
+#[derive(Clone, Copy, Debug, PartialEq, Eq)]
+pub enum Family {
+    /// The union of two Hamiltonian cycles.
+    TwoCycles,
+    /// Pinching from the two-vertex network, two edges at a time. Reaches every accepted
+    /// network.
+    Pinched,
+    /// Pinching edges that were made lately: many tight cuts and parallel edges.
+    PinchedNear,
+    /// Each vertex is joined to those at two fixed distances around a circle.
+    Circulant,
+    /// Smaller networks glued along cuts of four edges.
+    Glued,
+}
+
+impl Family {
+    /// Every family.
+    pub const ALL: [Family; 5] = [
+        Family::TwoCycles,
+        Family::Pinched,
+        Family::PinchedNear,
+        Family::Circulant,
+        Family::Glued,
+    ];
+
+    /// A member of the family with at least two vertices.
+    pub fn multigraph(self, rng: &mut Rng, vertices: usize) -> Multigraph {
+        let edges = match self {
+            Family::TwoCycles => two_cycles(rng, vertices),
+            Family::Pinched => pinched(rng, vertices, usize::MAX),
+            Family::PinchedNear => {
+                let newest = rng.between(2, 9);
+                pinched(rng, vertices, newest)
+            }
+            Family::Circulant => circulant(rng, vertices),
+            Family::Glued => glued(rng, vertices),
+        };
+        Multigraph { vertices, edges }
+    }
+}
+
+type Ends = Vec<(usize, usize)>;
+
+fn two_cycles(rng: &mut Rng, vertices: usize) -> Ends {
+    let mut edges = Ends::new();
+    for _ in 0..2 {
+        let round = rng.permutation(vertices);
+        edges.extend((0..vertices).map(|place| (round[place], round[(place + 1) % vertices])));
+    }
+    edges
+}
+
+/// Pinches two of the `newest` edges to make each vertex from the third on.
+fn pinched(rng: &mut Rng, vertices: usize, newest: usize) -> Ends {
+    let mut edges = vec![(0, 1); 4];
+    for vertex in 2..vertices {
+        for _ in 0..2 {
+            // Halves are put behind the choice, so that the second edge isn't one of them.
+            let whole = edges.len() - if edges.len() % 2 == 1 { 2 } else { 0 };
+            let oldest = whole.saturating_sub(newest);
+            let (a, b) = edges.remove(rng.between(oldest, whole - 1));
+            edges.extend([(a, vertex), (b, vertex)]);
+        }
+    }
+    edges
+}
+
+fn circulant(rng: &mut Rng, vertices: usize) -> Ends {
+    let (near, far) = loop {
+        let (near, far) = (rng.between(1, vertices - 1), rng.between(1, vertices - 1));
+        if common_divisor(common_divisor(near, far), vertices) == 1 {
+            break (near, far);
+        }
+    };
+    (0..vertices)
+        .flat_map(|w| [(w, (w + near) % vertices), (w, (w + far) % vertices)])
+        .collect()
+}
+
+fn common_divisor(a: usize, b: usize) -> usize {
+    if b == 0 {
+        a
+    } else {
+        common_divisor(b, a % b)
+    }
+}
+
+/// Glues two networks of three or more vertices, each perhaps glued itself.
+fn glued(rng: &mut Rng, vertices: usize) -> Ends {
+    if vertices < 4 {
+        return pinched(rng, vertices, usize::MAX);
+    }
+    let left_size = rng.between(3, vertices - 1);
+    let left = piece(rng, left_size);
+    let right = piece(rng, vertices + 2 - left_size);
+    glue(rng, &left, &right)
+}
+
+fn piece(rng: &mut Rng, vertices: usize) -> Multigraph {
+    let family = rng.pick(&[
+        Family::Glued,
+        Family::Glued,
+        Family::TwoCycles,
+        Family::Pinched,
+        Family::Circulant,
+    ]);
+    family.multigraph(rng, vertices)
+}
+
+/// Takes the last vertex out of both networks and joins the loose ends in any order.
+fn glue(rng: &mut Rng, left: &Multigraph, right: &Multigraph) -> Ends {
+    let (mut edges, left_ends) = open(left, 0);
+    let (more, mut right_ends) = open(right, left.vertices - 1);
+    edges.extend(more);
+    rng.shuffle(&mut right_ends);
+    edges.extend(left_ends.into_iter().zip(right_ends));
+    edges
+}
+
+/// The edges without the last vertex and the loose ends there, counted from `start`.
+fn open(graph: &Multigraph, start: usize) -> (Ends, Vec<usize>) {
+    let last = graph.vertices - 1;
+    let mut edges = Ends::new();
+    let mut loose = Vec::new();
+    for &(a, b) in &graph.edges {
+        match (a == last, b == last) {
+            (false, false) => edges.push((start + a, start + b)),
+            (true, _) => loose.push(start + b),
+            (_, true) => loose.push(start + a),
+        }
+    }
+    (edges, loose)
+}
+
+/// A way to make a network that reads, but that the check mostly refuses.
+#[derive(Clone, Copy, Debug, PartialEq, Eq)]
+pub enum Shapeless {
+    /// An accepted network with one end moved: refusal 6.
+    MovedEnd,
+    /// Two accepted networks with two edges across: refusal 7.
+    TwoAcross,
+    /// Accepted networks side by side: refusal 7.
+    Islands,
+    /// Four edges at each vertex, otherwise any: accepted, or refusal 7.
+    FourEach,
+    /// Any ends at all, perhaps within few vertices.
+    AnyEnds,
+    /// All edges at one vertex.
+    Star,
+    /// All edges between two vertices, with islands beside them.
+    Bundle,
+}
+
+impl Shapeless {
+    /// Every way.
+    pub const ALL: [Shapeless; 7] = [
+        Shapeless::MovedEnd,
+        Shapeless::TwoAcross,
+        Shapeless::Islands,
+        Shapeless::FourEach,
+        Shapeless::AnyEnds,
+        Shapeless::Star,
+        Shapeless::Bundle,
+    ];
+
+    /// The fewest vertices for which the way is open.
+    pub fn fewest_vertices(self) -> usize {
+        match self {
+            Shapeless::MovedEnd => 3,
+            Shapeless::TwoAcross | Shapeless::Islands => 4,
+            _ => 2,
+        }
+    }
+
+    /// A network made this way, with as many vertices or the fewest that will do.
+    pub fn multigraph(self, rng: &mut Rng, vertices: usize) -> Multigraph {
+        let vertices = vertices.max(self.fewest_vertices());
+        let count = 2 * vertices;
+        let edges = match self {
+            Shapeless::MovedEnd => moved_end(rng, vertices),
+            Shapeless::TwoAcross => {
+                let (mut edges, middle) = side_by_side(rng, vertices);
+                let (near, far) = (rng.below(2 * middle), rng.between(2 * middle, count - 1));
+                let ((a, b), (c, d)) = (edges[near], edges[far]);
+                edges[near] = (a, c);
+                edges[far] = (b, d);
+                edges
+            }
+            Shapeless::Islands => side_by_side(rng, vertices).0,
+            Shapeless::FourEach => four_each(rng, vertices),
+            Shapeless::AnyEnds => {
+                let within = rng.between(2, vertices);
+                (0..count).map(|_| two_below(rng, within)).collect()
+            }
+            Shapeless::Star => (0..count)
+                .map(|_| (0, rng.between(1, vertices - 1)))
+                .collect(),
+            Shapeless::Bundle => vec![two_below(rng, vertices); count],
+        };
+        Multigraph { vertices, edges }
+    }
+}
+
+/// Two different numbers below the bound, which is at least two.
+fn two_below(rng: &mut Rng, bound: usize) -> (usize, usize) {
+    let a = rng.below(bound);
+    (a, (a + rng.between(1, bound - 1)) % bound)
+}
+
+fn moved_end(rng: &mut Rng, vertices: usize) -> Ends {
+    let mut edges = rng.pick(&Family::ALL).multigraph(rng, vertices).edges;
+    let place = rng.below(edges.len());
+    let (a, b) = edges[place];
+    let free: Vec<usize> = (0..vertices).filter(|&w| w != a && w != b).collect();
+    edges[place].1 = rng.pick(&free);
+    edges
+}
+
+/// Two accepted networks side by side, and how many vertices the first one has.
+fn side_by_side(rng: &mut Rng, vertices: usize) -> (Ends, usize) {
+    let middle = rng.between(2, vertices - 2);
+    let mut edges = rng.pick(&Family::ALL).multigraph(rng, middle).edges;
+    let beside = rng
+        .pick(&Family::ALL)
+        .multigraph(rng, vertices - middle)
+        .edges;
+    edges.extend(beside.into_iter().map(|(a, b)| (middle + a, middle + b)));
+    (edges, middle)
+}
+
+/// Joins four loose ends of each vertex at random; loops are undone by switching.
+fn four_each(rng: &mut Rng, vertices: usize) -> Ends {
+    let mut loose: Vec<usize> = (0..4 * vertices).map(|end| end / 4).collect();
+    rng.shuffle(&mut loose);
+    let mut edges: Ends = loose.chunks(2).map(|pair| (pair[0], pair[1])).collect();
+    while let Some(place) = edges.iter().position(|(a, b)| a == b) {
+        let other = rng.below(edges.len());
+        let ((a, b), (c, d)) = (edges[place], edges[other]);
+        if c != a && d != a {
+            edges[place] = (a, c);
+            edges[other] = (b, d);
+        }
+    }
+    edges
+}
+
+/// Makes a network of a multigraph: costs, a reserved edge, and mostly new numbers for
+/// vertices and edges.
+pub fn dress(rng: &mut Rng, graph: &Multigraph, style: CostStyle) -> Network {
+    let count = graph.edges.len();
+    let costs = style.costs(rng, count);
+    let (names, order) = if rng.once_in(4) {
+        ((0..graph.vertices).collect(), (0..count).collect())
+    } else {
+        (rng.permutation(graph.vertices), rng.permutation(count))
+    };
+    let edges = order.iter().zip(costs).map(|(&place, cost)| {
+        let (a, b) = graph.edges[place];
+        let name = |w: usize| u16::try_from(names[w]).expect("there are few vertices");
+        Edge {
+            low: name(a).min(name(b)),
+            high: name(a).max(name(b)),
+            cost,
+        }
+    });
+    Network {
+        vertices: graph.vertices,
+        reserved: rng.below(count),
+        edges: edges.collect(),
+    }
+}
+
+/// An accepted network of the given family, size and style of costs.
+pub fn network_of(rng: &mut Rng, family: Family, vertices: usize, style: CostStyle) -> Network {
+    let graph = family.multigraph(rng, vertices);
+    dress(rng, &graph, style)
+}
+
+/// An accepted network of any family and style of costs.
+pub fn network(rng: &mut Rng, vertices: usize) -> Network {
+    let (family, style) = (rng.pick(&Family::ALL), rng.pick(&CostStyle::ALL));
+    network_of(rng, family, vertices, style)
+}
+
+/// The text of a generated network.
+pub fn text(network: &Network) -> Vec<u8> {
+    write_network(network).expect("generated networks keep the limits")
+}
+
+/// A fault of a network's numbers to aim at.
+#[derive(Clone, Copy, Debug, PartialEq, Eq)]
+pub enum NetworkAim {
+    /// Too few or too many vertices.
+    VertexCount,
+    /// A reserved edge that isn't there.
+    Reserved,
+    /// An edge out of its place.
+    EdgeNumber,
+    /// An end that isn't there.
+    End,
+    /// Ends that are equal or falling.
+    EndOrder,
+    /// A cost beyond a limit.
+    Cost,
+    /// A vertex without four edges.
+    Degree,
+    /// A cut with too few edges.
+    Cut,
+}
+
+impl NetworkAim {
+    /// Every aim.
+    pub const ALL: [NetworkAim; 8] = [
+        NetworkAim::VertexCount,
+        NetworkAim::Reserved,
+        NetworkAim::EdgeNumber,
+        NetworkAim::End,
+        NetworkAim::EndOrder,
+        NetworkAim::Cost,
+        NetworkAim::Degree,
+        NetworkAim::Cut,
+    ];
+
+    fn refusal(self) -> Refusal {
+        match self {
+            NetworkAim::VertexCount => BAD_VERTEX_COUNT,
+            NetworkAim::Reserved => BAD_RESERVED,
+            NetworkAim::EdgeNumber | NetworkAim::End | NetworkAim::EndOrder => BAD_EDGE,
+            NetworkAim::Cost => BAD_COST,
+            NetworkAim::Degree => NOT_FOUR_REGULAR,
+            NetworkAim::Cut => SMALL_CUT,
+        }
+    }
+}
+
+/// A network text with the given fault, and the refusal that is due. What follows the
+/// faulty frame may be damaged as well.
+pub fn aimed_network(rng: &mut Rng, aim: NetworkAim, vertices: usize) -> (Vec<u8>, Refusal) {
+    let shape = match aim {
+        NetworkAim::Degree => Some(Shapeless::MovedEnd),
+        NetworkAim::Cut => Some(rng.pick(&[Shapeless::TwoAcross, Shapeless::Islands])),
+        _ => None,
+    };
+    if let Some(shape) = shape {
+        let graph = shape.multigraph(rng, vertices);
+        let style = rng.pick(&CostStyle::ALL);
+        return (text(&dress(rng, &graph, style)), aim.refusal());
+    }
+
+    let network = network(rng, vertices);
+    let place = rng.below(network.edges.len());
+    let edge = network.edges[place];
+    let mut head = [as_field(vertices), as_field(network.reserved)];
+    let mut fields = [
+        as_field(place),
+        edge.low.into(),
+        edge.high.into(),
+        edge.cost,
+    ];
+    match aim {
+        NetworkAim::VertexCount => head[0] = rng.pick(&[0, 1, 257, 258, 512, 65_535]),
+        NetworkAim::Reserved => {
+            head[1] = rng.pick(&[as_field(2 * vertices), as_field(2 * vertices + 1), 65_535]);
+        }
+        NetworkAim::EdgeNumber => {
+            let other = rng.between(1, 65_535);
+            fields[0] = rng.pick(&[fields[0] + 1, (fields[0] + as_field(other)) % 65_536]);
+        }
+        NetworkAim::End => fields[2] = rng.pick(&[as_field(vertices), 256, 65_535]),
+        NetworkAim::EndOrder if rng.once_in(2) => fields[1] = fields[2],
+        NetworkAim::EndOrder => fields.swap(1, 2),
+        NetworkAim::Cost => {
+            let beyond = COST_LIMIT + 1;
+            let furthest = i64::from(i32::MAX);
+            fields[3] = rng.pick(&[beyond, -beyond, furthest, -furthest - 1]);
+        }
+        NetworkAim::Degree | NetworkAim::Cut => unreachable!("handled above"),
+    }
+    if matches!(aim, NetworkAim::EdgeNumber | NetworkAim::End) && rng.once_in(3) {
+        fields[3] = COST_LIMIT + 1;
+    }
+
+    let whole = text(&network);
+    let mut faulty = Vec::new();
+    HEAD.write(head, &mut faulty);
+    let in_head = matches!(aim, NetworkAim::VertexCount | NetworkAim::Reserved);
+    let behind = if in_head {
+        HEAD.line_length()
+    } else {
+        let before = HEAD.line_length() + place * EDGE.line_length();
+        faulty.extend_from_slice(&whole[HEAD.line_length()..before]);
+        EDGE.write(fields, &mut faulty);
+        before + EDGE.line_length()
+    };
+    let rest = &whole[behind..];
+    faulty.extend(if rng.once_in(2) {
+        damage(rng, rest)
+    } else {
+        rest.to_vec()
+    });
+    (faulty, aim.refusal())
+}
+
+fn as_field(size: usize) -> i64 {
+    i64::try_from(size).expect("sizes are small")
+}

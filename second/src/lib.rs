@@ -1,0 +1,68 @@
+//! Thinning of four-port networks: a second program to compare a verified core with.
+//!
+//! It follows the same rules as the core, but shares no code with it. Cuts are judged by
+//! counting across every one of them in small networks and by maximum flows in larger
+//! ones. Every service takes texts as bytes and gives a refusal's number as the error;
+//! buffers don't occur, so [`lengths`] says what would be due to them.
+//!
+//! ```
+//! let network = b"0100020000\n\
+//!     0200000000000100000005\n\
+//!     02000100000001ffffffff\n\
+//!     0200020000000100000003\n\
+//!     0200030000000100000003\n";
+//! let plan = second::plan(network).unwrap();
+//! assert_eq!(plan.chain, b"040003\n");
+//! assert_eq!(second::check_chain(network, &plan.chain), Ok(plan.kept));
+//! ```
+
+pub mod audit;
+pub mod chain;
+pub mod columns;
+pub mod cuts;
+pub mod flow;
+pub mod generate;
+pub mod lengths;
+pub mod lines;
+pub mod network;
+pub mod properties;
+pub mod refusal;
+pub mod texts;
+pub mod working;
+
+pub use audit::{audit, Audit};
+pub use chain::{check_chain_by, plan_by, Plan};
+pub use network::Method;
+pub use refusal::Refusal;
+pub use texts::{
+    read_chain, read_kept, read_list, read_network, write_chain, write_kept, write_list,
+    write_network, write_refusal, Chain, Edge, Kept, Network, Step,
+};
+
+/// Checks a network text: refusals 1 to 7.
+pub fn check_network(text: &[u8]) -> Result<(), Refusal> {
+    check_network_by(text, Method::Mixed)
+}
+
+/// Checks a network text with cuts judged by the given method.
+pub fn check_network_by(text: &[u8], method: Method) -> Result<(), Refusal> {
+    network::read_accepted(text, method).map(|_| ())
+}
+
+/// Plans a network text: chain and kept text, or refusals 1 to 7.
+pub fn plan(text: &[u8]) -> Result<Plan, Refusal> {
+    plan_by(text, Method::Mixed)
+}
+
+/// Checks any bytes as a chain over a network text: the kept text, or refusals 1 to 12.
+pub fn check_chain(network: &[u8], chain: &[u8]) -> Result<Vec<u8>, Refusal> {
+    check_chain_by(network, chain, Method::Mixed)
+}
+
+/// What the plan program writes for a network text: chain and kept text, or a 0f line.
+pub fn plan_output(text: &[u8], method: Method) -> Vec<u8> {
+    match plan_by(text, method) {
+        Ok(plan) => [plan.chain, plan.kept].concat(),
+        Err(refusal) => write_refusal(refusal),
+    }
+}

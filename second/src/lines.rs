@@ -1,0 +1,238 @@
+//! Lines of hexadecimal digits, and the frames they carry.
+
+use crate::refusal::{Refusal, BROKEN_TEXT};
+
+/// One field of a frame, with its width in bytes; the high byte comes first.
+#[derive(Clone, Copy, Debug)]
+pub enum Field {
+    /// A number from zero upwards.
+    Unsigned(usize),
+    /// A number in two's complement.
+    Signed(usize),
+}
+
+impl Field {
+    const fn width(self) -> usize {
+        match self {
+            Field::Unsigned(width) | Field::Signed(width) => width,
+        }
+    }
+
+    fn decode(self, bytes: &[u8]) -> i64 {
+        let negative = matches!(self, Field::Signed(_)) && bytes[0] >= 0x80;
+        let start = if negative { -1 } else { 0 };
+        bytes
+            .iter()
+            .fold(start, |value, &byte| (value << 8) | i64::from(byte))
+    }
+}
+
+/// The shape of one kind of frame: its first byte and the fields behind it.
+#[derive(Clone, Copy, Debug)]
+pub struct Shape<const FIELDS: usize> {
+    /// The frame's first byte.
+    pub kind: u8,
+    /// The fields in their order.
+    pub fields: [Field; FIELDS],
+}
+
+/// Count of vertices, reserved edge.
+pub const HEAD: Shape<2> = Shape {
+    kind: 0x01,
+    fields: [Field::Unsigned(2), Field::Unsigned(2)],
+};
+/// Edge number, lower end, higher end, cost.
+pub const EDGE: Shape<4> = Shape {
+    kind: 0x02,
+    fields: [
+        Field::Unsigned(2),
+        Field::Unsigned(2),
+        Field::Unsigned(2),
+        Field::Signed(4),
+    ],
+};
+/// The vertex v, partner x, partner y.
+pub const STEP: Shape<3> = Shape {
+    kind: 0x03,
+    fields: [Field::Unsigned(2), Field::Unsigned(2), Field::Unsigned(2)],
+};
+/// Dropped edge.
+pub const ENDING: Shape<1> = Shape {
+    kind: 0x04,
+    fields: [Field::Unsigned(2)],
+};
+/// Kept or listed edge.
+pub const LISTED: Shape<1> = Shape {
+    kind: 0x05,
+    fields: [Field::Unsigned(2)],
+};
+/// Kept cost, cost of all edges but the reserved one.
+pub const SUMS: Shape<2> = Shape {
+    kind: 0x06,
+    fields: [Field::Signed(8), Field::Signed(8)],
+};
+/// Refusal number.
+pub const REFUSED: Shape<1> = Shape {
+    kind: 0x0f,
+    fields: [Field::Unsigned(1)],
+};
+
+impl<const FIELDS: usize> Shape<FIELDS> {
+    /// Bytes of the frame itself.
+    const fn frame_length(&self) -> usize {
+        let mut length = 1;
+        let mut place = 0;
+        while place < FIELDS {
+            length += self.fields[place].width();
+            place += 1;
+        }
+        length
+    }
+
+    /// Characters of the line that carries the frame, line feed included.
+    pub const fn line_length(&self) -> usize {
+        2 * self.frame_length() + 1
+    }
+
+    /// Takes the next line and gives the fields of the frame in it.
+    pub fn read(&self, lines: &mut Lines) -> Result<[i64; FIELDS], Refusal> {
+        let frame = lines.next_line()?;
+        if frame.first() != Some(&self.kind) || frame.len() != self.frame_length() {
+            return Err(BROKEN_TEXT);
+        }
+        let mut rest = &frame[1..];
+        Ok(self.fields.map(|field| {
+            let (bytes, behind) = rest.split_at(field.width());
+            rest = behind;
+            field.decode(bytes)
+        }))
+    }
+
+    /// Appends the line for the given fields; of each value the low bytes are written.
+    pub fn write(&self, values: [i64; FIELDS], text: &mut Vec<u8>) {
+        push_byte(self.kind, text);
+        for (field, value) in self.fields.iter().zip(values) {
+            let bytes = value.to_be_bytes();
+            for &byte in &bytes[bytes.len() - field.width()..] {
+                push_byte(byte, text);
+            }
+        }
+        text.push(b'\n');
+    }
+}
+
+/// The part of a text that hasn't been read yet.
+#[derive(Clone, Debug)]
+pub struct Lines<'text> {
+    rest: &'text [u8],
+}
+
+impl<'text> Lines<'text> {
+    /// Starts at the text's first byte.
+    pub fn new(text: &'text [u8]) -> Self {
+        Lines { rest: text }
+    }
+
+    /// Whether every byte has been read.
+    pub fn at_end(&self) -> bool {
+        self.rest.is_empty()
+    }
+
+    /// Refuses bytes left over.
+    pub fn finish(&self) -> Result<(), Refusal> {
+        if self.at_end() {
+            Ok(())
+        } else {
+            Err(BROKEN_TEXT)
+        }
+    }
+
+    /// Takes one line and gives the bytes that its digits stand for.
+    fn next_line(&mut self) -> Result<Vec<u8>, Refusal> {
+        let feed = self
+            .rest
+            .iter()
+            .position(|&byte| byte == b'\n')
+            .ok_or(BROKEN_TEXT)?;
+        let digits = &self.rest[..feed];
+        self.rest = &self.rest[feed + 1..];
+        let pairs = digits.chunks_exact(2);
+        if !pairs.remainder().is_empty() {
+            return Err(BROKEN_TEXT);
+        }
+        pairs
+            .map(|pair| Some(16 * digit(pair[0])? + digit(pair[1])?))
+            .collect::<Option<Vec<u8>>>()
+            .ok_or(BROKEN_TEXT)
+    }
+}
+
+fn digit(character: u8) -> Option<u8> {
+    match character {
+        b'0'..=b'9' => Some(character - b'0'),
+        b'a'..=b'f' => Some(character - b'a' + 10),
+        _ => None,
+    }
+}
+
+fn push_byte(byte: u8, text: &mut Vec<u8>) {
+    const DIGITS: &[u8; 16] = b"0123456789abcdef";
+    text.push(DIGITS[usize::from(byte >> 4)]);
+    text.push(DIGITS[usize::from(byte & 15)]);
+}
+
+#[cfg(test)]
+mod tests {
+    use super::*;
+
+    fn read_edge(text: &[u8]) -> Result<[i64; 4], Refusal> {
+        EDGE.read(&mut Lines::new(text))
+    }
+
+    #[test]
+    fn lengths_of_the_seven_kinds() {
+        assert_eq!(HEAD.line_length(), 11);
+        assert_eq!(EDGE.line_length(), 23);
+        assert_eq!(STEP.line_length(), 15);
+        assert_eq!(ENDING.line_length(), 7);
+        assert_eq!(LISTED.line_length(), 7);
+        assert_eq!(SUMS.line_length(), 35);
+        assert_eq!(REFUSED.line_length(), 5);
+    }
+
+    #[test]
+    fn what_is_written_is_read_again() {
+        for cost in [0, 1, -1, i64::from(i32::MAX), i64::from(i32::MIN)] {
+            let mut text = Vec::new();
+            EDGE.write([511, 0, 65_535, cost], &mut text);
+            assert_eq!(read_edge(&text), Ok([511, 0, 65_535, cost]));
+        }
+        for sum in [0, 1, -1, i64::MAX, i64::MIN] {
+            let mut text = Vec::new();
+            SUMS.write([sum, -1], &mut text);
+            assert_eq!(SUMS.read(&mut Lines::new(&text)), Ok([sum, -1]));
+        }
+    }
+
+    #[test]
+    fn faults_of_form() {
+        assert_eq!(read_edge(b"02000000010002fffffffa\n"), Ok([0, 1, 2, -6]));
+        let broken: [&[u8]; 12] = [
+            b"",
+            b"\n",
+            b"02000000010002fffffffa",
+            b"02000000010002FFFFFFFA\n",
+            b"02000000010002fffffffa\r\n",
+            b"02000000010002fffffff\n",
+            b"02000000010002fffffffa0\n",
+            b"02000000010002fffffffa00\n",
+            b"02000000010002fffff\n",
+            b"03000000010002fffffffa\n",
+            b" 2000000010002fffffffa\n",
+            b"\n02000000010002fffffffa\n",
+        ];
+        for text in broken {
+            assert_eq!(read_edge(text), Err(BROKEN_TEXT));
+        }
+    }
+}

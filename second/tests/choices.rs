@@ -1,0 +1,72 @@
+//! The planner's choices, looked at step by step, and the sum that going back must give.
+
+mod common;
+
+use common::rounds;
+use second::chain::{check_step, plan_network};
+use second::generate;
+use second::network::Method;
+use second::working::Working;
+use second::{read_kept, read_network, Network};
+
+/// A working cost is never further from zero.
+const WORKING_LIMIT: i64 = 512_000_000_000;
+
+/// The admissible partners at a vertex in rising order.
+fn admissible(working: &Working, v: usize) -> Vec<usize> {
+    let partners = working.partners(v).into_iter();
+    partners
+        .filter(|&x| working.admissible(v, x, Method::EveryFlow))
+        .collect()
+}
+
+fn assert_choices(network: &Network) {
+    let (chain, kept) = plan_network(network, Method::Mixed);
+    let mut working = Working::new(network);
+    let mut sum = 0;
+    for step in chain.steps {
+        assert_eq!(check_step(&working, step, Method::Mixed), Ok(()));
+        let [v, x, y] = [step.v, step.x, step.y].map(usize::from);
+        let ends = working.reserved_ends();
+        assert_eq!(v, ends.0.max(ends.1));
+        assert_eq!([x.min(y), x.max(y)], admissible(&working, v)[..2]);
+        let (dear, cheap) = (working.cost(x), working.cost(y));
+        assert!(dear > cheap || (dear == cheap && x < y));
+        sum += dear + cheap;
+        let z = working.split(v, x, y);
+        assert!(working.cost(z).abs() <= WORKING_LIMIT);
+        assert!(!working.has_vertex(v));
+        assert!(!working.has_edge(x) && !working.has_edge(y));
+    }
+    let dropped = usize::from(chain.dropped);
+    for edge in working.partners(working.reserved_ends().0) {
+        let (cost, most) = (working.cost(edge), working.cost(dropped));
+        assert!(cost < most || (cost == most && edge <= dropped));
+        sum += cost;
+    }
+    assert_eq!(kept.cost, sum - working.cost(dropped));
+}
+
+#[test]
+fn the_planner_chooses_as_it_must() {
+    rounds(600, |rng| {
+        let size = generate::size(rng).min(20);
+        assert_choices(&generate::network(rng, size));
+    });
+}
+
+#[test]
+fn every_reserved_edge_can_be_spared() {
+    rounds(40, |rng| {
+        let size = rng.between(2, 12);
+        let mut network = generate::network(rng, size);
+        for reserved in 0..2 * size {
+            network.reserved = reserved;
+            assert_choices(&network);
+            let text = generate::text(&network);
+            assert_eq!(read_network(&text).as_ref(), Ok(&network));
+            let kept = read_kept(&second::plan(&text).unwrap().kept).unwrap();
+            assert!(!kept.edges.iter().any(|&edge| usize::from(edge) == reserved));
+        }
+    });
+}

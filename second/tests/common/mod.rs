@@ -1,0 +1,76 @@
+//! What the tests share: small helpers for texts, and how many rounds to go.
+
+#![allow(dead_code)]
+
+use second::generate::Rng;
+use second::{write_network, Edge, Network};
+
+/// The network printed in the rules, three vertices.
+pub const T: &str = "\
+0100030000
+0200000000000100000007
+0200010000000100000004
+0200020000000200000001
+0200030000000200000002
+0200040001000200000006
+0200050001000200000003
+";
+
+/// What the plan program writes for it.
+pub const T_PLAN: &str = "\
+03000100040005
+040003
+050001
+050002
+050005
+0600000000000000080000000000000010
+";
+
+/// A network's text from its ends and costs.
+pub fn network_text(
+    vertices: usize,
+    reserved: usize,
+    ends: &[(u16, u16)],
+    costs: &[i64],
+) -> Vec<u8> {
+    write_network(&network(vertices, reserved, ends, costs)).expect("the network can be written")
+}
+
+/// A network from its ends and costs.
+pub fn network(vertices: usize, reserved: usize, ends: &[(u16, u16)], costs: &[i64]) -> Network {
+    let edges = ends
+        .iter()
+        .zip(costs)
+        .map(|(&(low, high), &cost)| Edge { low, high, cost });
+    Network {
+        vertices,
+        reserved,
+        edges: edges.collect(),
+    }
+}
+
+/// Runs a property for many seeds. `SECOND_ROUNDS` multiplies the rounds, `SECOND_SEED`
+/// moves the seeds.
+pub fn rounds(count: u64, property: impl Fn(&mut Rng)) {
+    let given = |name: &str| {
+        std::env::var(name)
+            .ok()
+            .and_then(|value| value.parse().ok())
+    };
+    let start = given("SECOND_SEED").unwrap_or(0);
+    for round in 0..count * given("SECOND_ROUNDS").unwrap_or(1) {
+        let seed = u64::wrapping_add(start, round);
+        let told = Told(seed);
+        property(&mut Rng::new(seed));
+        std::mem::forget(told);
+    }
+}
+
+/// Tells the seed when a property fails.
+struct Told(u64);
+
+impl Drop for Told {
+    fn drop(&mut self) {
+        eprintln!("failed with SECOND_SEED={} in the first round", self.0);
+    }
+}

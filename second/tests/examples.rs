@@ -1,0 +1,185 @@
+//! The examples printed in the rules, byte for byte where bytes are printed.
+
+mod common;
+
+use common::{network_text, T, T_PLAN};
+use second::{
+    audit, check_chain_by, check_network, check_network_by, plan_by, plan_output, read_kept,
+    write_chain, write_kept, write_list, Audit, Chain, Kept, Method, Step,
+};
+
+const METHODS: [Method; 4] = [
+    Method::Mixed,
+    Method::Enumeration,
+    Method::EveryFlow,
+    Method::ContractedFlow,
+];
+
+/// Steps, dropped edge, kept edges, kept cost and total.
+type Outcome<'a> = (&'a [(u16, u16, u16)], u16, &'a [u16], i64, i64);
+
+fn assert_planned(network: &[u8], vertices: usize, (steps, dropped, edges, cost, total): Outcome) {
+    let steps = steps.iter().map(|&(v, x, y)| Step { v, x, y }).collect();
+    let edges = edges.to_vec();
+    let chain = write_chain(vertices, &Chain { steps, dropped }).unwrap();
+    let kept = write_kept(&Kept { edges, cost, total });
+    for method in METHODS {
+        let plan = plan_by(network, method).unwrap();
+        assert_eq!(plan.chain, chain);
+        assert_eq!(plan.kept, kept);
+        assert_eq!(check_chain_by(network, &chain, method), Ok(kept.clone()));
+    }
+}
+
+fn two_vertices(costs: [i64; 4]) -> Vec<u8> {
+    network_text(2, 0, &[(0, 1); 4], &costs)
+}
+
+/// The ends of the printed network's edges.
+const T_ENDS: [(u16, u16); 6] = [(0, 1), (0, 1), (0, 2), (0, 2), (1, 2), (1, 2)];
+
+fn t_with(costs: [i64; 6]) -> Vec<u8> {
+    network_text(3, 0, &T_ENDS, &costs)
+}
+
+#[test]
+fn the_printed_input_gives_the_printed_output() {
+    for method in METHODS {
+        assert_eq!(plan_output(T.as_bytes(), method), T_PLAN.as_bytes());
+    }
+    assert_eq!(t_with([7, 4, 1, 2, 6, 3]), T.as_bytes());
+}
+
+#[test]
+fn two_vertices_drop_a_dearest() {
+    let network = two_vertices([5, -1, 3, 3]);
+    assert_planned(&network, 2, (&[], 3, &[1, 2], 2, 5));
+    let network = two_vertices([9, 1, 1, 1]);
+    assert_planned(&network, 2, (&[], 3, &[1, 2], 2, 3));
+    let network = two_vertices([0, -4, -4, -6]);
+    assert_planned(&network, 2, (&[], 2, &[1, 3], -10, -14));
+}
+
+#[test]
+fn the_printed_network_with_other_costs() {
+    let network = t_with([7, 4, 1, 2, 6, 3]);
+    assert_planned(&network, 3, (&[(1, 4, 5)], 3, &[1, 2, 5], 8, 16));
+    let network = t_with([7, 40, 1, 2, 6, 3]);
+    assert_eq!(
+        read_kept(&plan_by(&network, Method::Mixed).unwrap().kept),
+        Ok(Kept {
+            edges: vec![2, 3, 4, 5],
+            cost: 12,
+            total: 52
+        })
+    );
+    let network = t_with([1; 6]);
+    assert_eq!(
+        read_kept(&plan_by(&network, Method::Mixed).unwrap().kept),
+        Ok(Kept {
+            edges: vec![1, 2, 5],
+            cost: 3,
+            total: 5
+        })
+    );
+}
+
+#[test]
+fn four_vertices() {
+    let ends = [
+        (0, 1),
+        (0, 1),
+        (2, 3),
+        (2, 3),
+        (0, 2),
+        (1, 3),
+        (0, 3),
+        (1, 2),
+    ];
+    let network = network_text(4, 4, &ends, &[2, 5, 1, 4, 9, 3, 6, 2]);
+    let steps = [(2, 3, 2), (3, 5, 7)];
+    assert_planned(&network, 4, (&steps, 1, &[0, 2, 6, 7], 11, 23));
+}
+
+#[test]
+fn refused_chains_over_the_printed_network() {
+    let cases: [(&[u8], u8); 5] = [
+        (b"03000200040005\n040003\n", 8),
+        (b"03000100040000\n040003\n", 9),
+        (b"03000100010005\n040003\n", 10),
+        (b"03000100050004\n040003\n", 11),
+        (b"03000100040005\n040002\n", 12),
+    ];
+    for (chain, refusal) in cases {
+        for method in METHODS {
+            assert_eq!(check_chain_by(T.as_bytes(), chain, method), Err(refusal));
+        }
+    }
+}
+
+#[test]
+fn refused_networks() {
+    let threefold = [
+        (0, 1),
+        (0, 1),
+        (0, 1),
+        (2, 3),
+        (2, 3),
+        (2, 3),
+        (0, 2),
+        (1, 3),
+    ];
+    let uneven = [(0, 1), (0, 1), (0, 1), (0, 2), (0, 2), (1, 2)];
+    for method in METHODS {
+        let network = network_text(4, 0, &threefold, &[0; 8]);
+        assert_eq!(check_network_by(&network, method), Err(7));
+        let network = network_text(3, 0, &uneven, &[0; 6]);
+        assert_eq!(check_network_by(&network, method), Err(6));
+    }
+}
+
+#[test]
+fn counts_of_vertices_at_their_limits() {
+    assert_eq!(check_network(b"0100010000\n"), Err(2));
+    assert_eq!(check_network(b"0101010000\n"), Err(2));
+    assert_eq!(check_network(&two_vertices([0; 4])), Ok(()));
+    let ends: Vec<(u16, u16)> = (0..512)
+        .map(|edge| (edge % 256, (edge + 1) % 256))
+        .map(|(a, b)| (a.min(b), a.max(b)))
+        .collect();
+    let network = network_text(256, 511, &ends, &[1; 512]);
+    assert_eq!(check_network(&network), Ok(()));
+}
+
+#[test]
+fn reserved_edges_and_costs_at_their_limits() {
+    let with_reserved = |digit: &str| T.replacen("0100030000", &format!("010003000{digit}"), 1);
+    assert_eq!(check_network(with_reserved("5").as_bytes()), Ok(()));
+    assert_eq!(check_network(with_reserved("6").as_bytes()), Err(3));
+    let with_cost = |cost: i32| T.replacen("00000007", &format!("{cost:08x}"), 1);
+    assert_eq!(check_network(with_cost(1_000_000_000).as_bytes()), Ok(()));
+    assert_eq!(check_network(with_cost(1_000_000_001).as_bytes()), Err(5));
+    assert_eq!(check_network(with_cost(-1_000_000_000).as_bytes()), Ok(()));
+    assert_eq!(check_network(with_cost(-1_000_000_001).as_bytes()), Err(5));
+}
+
+#[test]
+fn audits_of_the_printed_network() {
+    let cases: [(&[u16], bool, usize, usize); 4] = [
+        (&[1, 2, 5], true, 3, 0),
+        (&[1, 2], true, 3, 2),
+        (&[4, 5], false, 1, 2),
+        (&[], false, 1, 0),
+    ];
+    for (list, connected, reached, critical) in cases {
+        let list = write_list(3, list).unwrap();
+        assert_eq!(
+            audit(T.as_bytes(), &list),
+            Ok(Audit {
+                connected,
+                reached,
+                critical
+            })
+        );
+    }
+}
