@@ -29,16 +29,16 @@ use Rattle.graph.proofs.Rules.{step-ruled, ruled-step, Stepped, stepped
 use Rattle.graph.proofs.Plans.{chosen-ruled, chosen-drop-passes}
 
 -- ── taking a verdict apart ──
-unless-keeps : (k : ℕ) (w : Verdict) (K : List Bool) → unless k w ≡ keeps K → (k ≡ 0) × (w ≡ keeps K)
+pub unless-keeps : (k : ℕ) (w : Verdict) (K : List Bool) → unless k w ≡ keeps K → (k ≡ 0) × (w ≡ keeps K)
 unfolding unless
 unless-keeps zero w K h = (refl, h)
 unless-keeps (suc k) w K h = let z : _≡_ {A = ℕ} 0 1 = cc in absurd (omega arith)
 
-counted-keeps : (t : Bool) (w : Verdict) (K : List Bool) → cond t w (refused 1) ≡ keeps K → (t ≡ true) × (w ≡ keeps K)
+pub counted-keeps : (t : Bool) (w : Verdict) (K : List Bool) → cond t w (refused 1) ≡ keeps K → (t ≡ true) × (w ≡ keeps K)
 counted-keeps true w K h = (refl, h)
 counted-keeps false w K h = let z : _≡_ {A = ℕ} 0 1 = cc in absurd (omega arith)
 
-lift-keeps : (g : Network) (t : Step) (w : Verdict) (K : List Bool) → liftVerdict g t w ≡ keeps K
+pub lift-keeps : (g : Network) (t : Step) (w : Verdict) (K : List Bool) → liftVerdict g t w ≡ keeps K
     → (L : List Bool) × (w ≡ keeps L) × (lift (t .x) (t .y) (third g t) L ≡ K)
 unfolding liftVerdict
 lift-keeps g t (refused k) K h = let z : _≡_ {A = ℕ} 0 1 = cc in absurd (omega arith)
@@ -57,14 +57,14 @@ check-ended g d K h =
     let u = unless-keeps (endRefusal g d) (keeps (endKept g d)) K (c .1) in
     record { two = eqb-true (g .remaining) 2 (c .0); passed = u .0; marks-are = cc (u .1) }
 
-record Began (g : Network) (t : Step) (ts : List Step) (d : ℕ) (K : List Bool) : Type 0 where
-  more : 2 < g .remaining
-  passed : stepRefusal g t ≡ 0
-  later : List Bool
-  later-keeps : check (after g t) ts d ≡ keeps later
-  marks-are : lift (t .x) (t .y) (third g t) later ≡ K
+pub record Began (g : Network) (t : Step) (ts : List Step) (d : ℕ) (K : List Bool) : Type 0 where
+  pub more : 2 < g .remaining
+  pub passed : stepRefusal g t ≡ 0
+  pub later : List Bool
+  pub later-keeps : check (after g t) ts d ≡ keeps later
+  pub marks-are : lift (t .x) (t .y) (third g t) later ≡ K
 
-check-began : (g : Network) (t : Step) (ts : List Step) (d : ℕ) (K : List Bool) → check g (t ∷ ts) d ≡ keeps K → Began g t ts d K
+pub check-began : (g : Network) (t : Step) (ts : List Step) (d : ℕ) (K : List Bool) → check g (t ∷ ts) d ≡ keeps K → Began g t ts d K
 unfolding check
 check-began g t ts d K h =
     let c = counted-keeps (ltb 2 (g .remaining)) _ K h in

@@ -21,35 +21,11 @@ use Rattle.graph.specs.State.{edgeLimit, vertexLimit}
 use Rattle.graph.specs.declared.Network.{Network}
 use Rattle.graph.specs.declared.Step.{Step}
 use Rattle.graph.proofs.Rules.{ruled-step}
-use Rattle.graph.proofs.Condition.{passes-ruled}
+use Rattle.graph.proofs.Condition.{unless-keeps, counted-keeps, lift-keeps, check-began, passes-ruled}
 use Rattle.thinning.specs.Running.{Running}
 use Rattle.thinning.specs.Verdicts.{stepIn, droppedIn, checkEnding, checkChain, lifted}
 use Rattle.thinning.specs.Plans.{inFrame}
 use Rattle.thinning.proofs.Chains.{ending-kept, chain-at-more, running-after, step-taken, v-below}
-
--- ── verdicts that pass ──
-cond-keeps : (b : Bool) (w : Verdict) {K : List Bool} → cond b w (refused 1) ≡ keeps K → (b ≡ true) × (w ≡ keeps K)
-cond-keeps true w h = (refl, h)
-cond-keeps false w h = let z : _≡_ {A = ℕ} 0 1 = cc in absurd (omega arith)
-
-unless-keeps : (k : ℕ) (w : Verdict) {K : List Bool} → unless k w ≡ keeps K → (k ≡ 0) × (w ≡ keeps K)
-unfolding unless
-unless-keeps zero w h = (refl, h)
-unless-keeps (suc k) w h = let z : _≡_ {A = ℕ} 0 1 = cc in absurd (omega arith)
-
-lift-keeps : (g : Network) (t : Step) (w : Verdict) {K : List Bool} → liftVerdict g t w ≡ keeps K
-    → (L : List Bool) × (w ≡ keeps L) × (lift (t .x) (t .y) (third g t) L ≡ K)
-unfolding liftVerdict
-lift-keeps g t (refused k) h = let z : _≡_ {A = ℕ} 0 1 = cc in absurd (omega arith)
-lift-keeps g t (keeps L) h = (L, refl, cc)
-
-check-later : (g : Network) (t : Step) (ts : List Step) (d : ℕ) (K : List Bool) → check g (t ∷ ts) d ≡ keeps K
-    → (L : List Bool) × (check (after g t) ts d ≡ keeps L) × (lift (t .x) (t .y) (third g t) L ≡ K)
-unfolding check
-check-later g t ts d K h =
-    let a = cond-keeps (ltb 2 (g .remaining)) _ h in
-    let b = unless-keeps (stepRefusal g t) (liftVerdict g t (check (after g t) ts d)) (a .1) in
-    lift-keeps g t (check (after g t) ts d) (b .1)
 
 -- ── the line of a step, and of an ending ──
 step-line : (t : List ℕ) → isLine STEP t ≡ true → t ≡ lineOf STEP (ofStep (inFrame (stepIn t))) ++ drop (lineLength STEP) t
@@ -74,9 +50,9 @@ pub record Meant (g : Network) (t : List ℕ) (K : List Bool) : Type 0 where
 ending-meant : (g : Network) (t : List ℕ) (K : List Bool) → g .remaining ≡ 2 → checkEnding g t ≡ keeps K → Meant g t K
 unfolding checkEnding chainText check unless
 ending-meant g t K e h =
-    let a = cond-keeps (isLine DROPPED t) _ h in
-    let b = unless-keeps (endRefusal g (droppedIn t)) _ (a .1) in
-    let c = cond-keeps (leb (length t) (lineLength DROPPED)) (keeps (endKept g (droppedIn t))) (b .1) in
+    let a = counted-keeps (isLine DROPPED t) _ K h in
+    let b = unless-keeps (endRefusal g (droppedIn t)) _ K (a .1) in
+    let c = counted-keeps (leb (length t) (lineLength DROPPED)) (keeps (endKept g (droppedIn t))) K (b .1) in
     record {
       steps = [];
       dropped = droppedIn t;
@@ -89,9 +65,9 @@ unfolding checkChain
 bytes-meant zero g t K e h = ending-meant g t K e h
 bytes-meant (suc n) g t K e h =
     let s = stepIn t in
-    let a = cond-keeps (isLine STEP t) _ h in
-    let b = unless-keeps (stepRefusal g s) (liftVerdict g s (checkChain n (after g s) (drop (lineLength STEP) t))) (a .1) in
-    let c = lift-keeps g s (checkChain n (after g s) (drop (lineLength STEP) t)) (b .1) in
+    let a = counted-keeps (isLine STEP t) _ K h in
+    let b = unless-keeps (stepRefusal g s) (liftVerdict g s (checkChain n (after g s) (drop (lineLength STEP) t))) K (a .1) in
+    let c = lift-keeps g s (checkChain n (after g s) (drop (lineLength STEP) t)) K (b .1) in
     let m = bytes-meant n (after g s) (drop (lineLength STEP) t) (c .0) (fewer e) (c .1) in
     record {
       steps = s ∷ m .steps;
@@ -132,8 +108,8 @@ ending-passes g d K r l h =
     let is : isLine DROPPED text ≡ true = ap (isLine DROPPED) e ∙ line-is DROPPED f [] in
     let found : fieldsOf DROPPED text ≡ f = ap (fieldsOf DROPPED) e ∙ fields-found DROPPED f [] (dropped-fits d l) in
     let named : droppedIn text ≡ d = ap (λ f. droppedOf f .edge) found in
-    let k = cond-keeps (eqb (g .remaining) 2) _ h in
-    let u = unless-keeps (endRefusal g d) (keeps (endKept g d)) (k .1) in
+    let k = counted-keeps (eqb (g .remaining) 2) _ K h in
+    let u = unless-keeps (endRefusal g d) (keeps (endKept g d)) K (k .1) in
     ending-kept g text is (ap (endRefusal g) named ∙ u .0) (omega (arith, length-line DROPPED f)) ∙ ap (λ i. keeps (endKept g i)) named ∙ u .1
 
 -- a step's line in front of the rest of a chain
@@ -168,5 +144,5 @@ meaning-passes (t ∷ ts) {g} d run K h = go (passes-ruled (t ∷ ts) (run .soun
         → (Running (after g t) → (L : List Bool) → check (after g t) ts d ≡ keeps L → checkChain (after g t .remaining - 2) (after g t) (chainText (map inFrame ts) d) ≡ keeps L)
         → checkChain (g .remaining - 2) g (lineOf STEP (ofStep (inFrame t)) ++ chainText (map inFrame ts) d) ≡ keeps K
     go (step more r rest) ih =
-        let w = check-later g t ts d K h in
-        step-passes run t (chainText (map inFrame ts) d) (w .0) more r (ih (running-after run more t (ruled-step g t r)) (w .0) (w .1)) ∙ ap keeps (w .2)
+        let w = check-began g t ts d K h in
+        step-passes run t (chainText (map inFrame ts) d) (w .later) more r (ih (running-after run more t (ruled-step g t r)) (w .later) (w .later-keeps)) ∙ ap keeps (w .marks-are)

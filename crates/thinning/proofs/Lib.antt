@@ -10,3 +10,4 @@ pub mod Accepting
 pub mod Keepings
 pub mod Handing
 pub mod Condition
+pub mod Examples

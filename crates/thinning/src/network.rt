@@ -45,7 +45,7 @@ pub fn accept(text: &[u8]) -> Loaded
     Loaded { refusal, network }
 }
 
-// Checks a network text: refusals 1 to 7 in order, or accepted.
+// Checks a network text: refusals 1 to 5 as the text meets them, then 6, then 7, or accepted.
 pub fn check_network(text: &[u8]) -> Acceptance
     ensures { λ r. ⌜ r ≡ acceptanceOf (acceptNetwork (now (text .entry))) ⌝ }
 {

@@ -1,0 +1,13 @@
+-- What an export gives: a refusal's number, and its out-numbers.
+use Prim.Native.Nat.{ℕ}
+use Rattle.frame.specs.Answer.{Answer, refused, answer}
+
+-- the number of an answer: 0, or its refusal's
+unfoldable pub numberOf : {M : Type 0} → Answer M → ℕ
+numberOf (refused k) = k
+numberOf (answer m) = 0
+
+-- an out-number afterwards: its part of the answer, or, after a refusal, its old value
+unfoldable pub numberGiven : {M : Type 0} → (M → ℕ) → Answer M → ℕ → ℕ
+numberGiven part (refused k) old = old
+numberGiven part (answer m) old = part m

@@ -1,0 +1,147 @@
+// Runs the services on the texts of document 01's district examples, and on a wrong text or chain for each refusal.
+use frame::Reply;
+use libc::STDOUT_FILENO;
+use thinning::Acceptance;
+use thinning::check_chain;
+use thinning::check_network;
+
+// Room for the longest kept text.
+const KEPT_ROOM: usize = 4096;
+
+fn say(words: &[u8]) {
+    io::write_all(STDOUT_FILENO, words);
+}
+
+fn refused(number: u8) {
+    say(b"refused ");
+    io::print_decimal(STDOUT_FILENO, number as u64);
+    say(b"\n");
+}
+
+// Says what a network text is, and how the check answers it.
+fn network(what: &[u8], text: &[u8]) {
+    say(what);
+    say(b": ");
+    match check_network(text) {
+        Acceptance::Accepted => {
+            say(b"accepted\n");
+        }
+        Acceptance::Refused(number) => {
+            refused(number);
+        }
+    }
+}
+
+// Says what a chain is, and writes its kept text or the refusal.
+fn chain(what: &[u8], text: &[u8], proposed: &[u8]) {
+    say(what);
+    say(b": ");
+    let mut kept = [0u8; KEPT_ROOM];
+    match check_chain(text, proposed, &mut kept) {
+        Reply::Done(length) => {
+            say(b"passes\n");
+            io::write_all(STDOUT_FILENO, &kept[..length]);
+        }
+        Reply::Refused(number) => {
+            refused(number);
+        }
+    }
+}
+
+// The same with room for no more than a line.
+fn chain_short(what: &[u8], text: &[u8], proposed: &[u8]) {
+    say(what);
+    say(b": ");
+    let mut kept = [0u8; 55];
+    match check_chain(text, proposed, &mut kept) {
+        Reply::Done(_) => {
+            say(b"passes\n");
+        }
+        Reply::Refused(number) => {
+            refused(number);
+        }
+    }
+}
+
+fn networks() {
+    network(b"no text", b"");
+    network(
+        b"T without its last feed",
+        b"0100030000\n0200000000000100000007\n0200010000000100000004\n0200020000000200000001\n0200030000000200000002\n0200040001000200000006\n0200050001000200000003",
+    );
+    network(b"one cabinet", b"0100010000\n");
+    network(b"257 cabinets", b"0101010000\n");
+    network(b"T with cable 6 reserved", b"0100030006\n");
+    network(
+        b"T with cable 5 reserved",
+        b"0100030005\n0200000000000100000007\n0200010000000100000004\n0200020000000200000001\n0200030000000200000002\n0200040001000200000006\n0200050001000200000003\n",
+    );
+    network(
+        b"a cable from 1 to 0",
+        b"0100020000\n0200000001000000000001\n",
+    );
+    network(
+        b"cost 1,000,000,001",
+        b"0100020000\n020000000000013b9aca01\n",
+    );
+    network(
+        b"cost 1,000,000,000",
+        b"0100020000\n020000000000013b9aca00\n0200010000000100000001\n0200020000000100000001\n0200030000000100000001\n",
+    );
+    network(
+        b"0-1 three times, 0-2 twice, 1-2",
+        b"0100030000\n0200000000000100000001\n0200010000000100000001\n0200020000000100000001\n0200030000000200000001\n0200040000000200000001\n0200050001000200000001\n",
+    );
+    network(
+        b"0-1 three times, 2-3 three times, 0-2, 1-3",
+        b"0100040000\n0200000000000100000001\n0200010000000100000001\n0200020000000100000001\n0200030002000300000001\n0200040002000300000001\n0200050002000300000001\n0200060000000200000001\n0200070001000300000001\n",
+    );
+}
+
+// Chains on T.
+fn chains(text: &[u8]) {
+    chain(b"T as printed", text, b"03000100040005\n040003\n");
+    chain(b"no chain", text, b"");
+    chain(b"no ending", text, b"03000100040005\n");
+    chain(b"v 2", text, b"03000200040005\n040003\n");
+    chain(b"y 0", text, b"03000100040000\n040003\n");
+    chain(b"x 1, y 5", text, b"03000100010005\n040003\n");
+    chain(b"x 5, y 4", text, b"03000100050004\n040003\n");
+    chain(b"drops 2", text, b"03000100040005\n040002\n");
+    chain(
+        b"drops 2, and a broken ending",
+        text,
+        b"03000100040005\n040002",
+    );
+    chain(b"a byte left over", text, b"03000100040005\n040003\n0");
+    chain_short(b"a buffer of 55 bytes", text, b"03000100040005\n040003\n");
+}
+
+// The district of four cabinets.
+fn square(text: &[u8]) {
+    chain(
+        b"four cabinets",
+        text,
+        b"03000200030002\n03000300050007\n040001\n",
+    );
+    chain(
+        b"its second step first",
+        text,
+        b"03000300050007\n03000200030002\n040001\n",
+    );
+    chain(
+        b"its second step at v 1",
+        text,
+        b"03000200030002\n03000100050007\n040001\n",
+    );
+}
+
+fn main() {
+    networks();
+    chains(
+        b"0100030000\n0200000000000100000007\n0200010000000100000004\n0200020000000200000001\n0200030000000200000002\n0200040001000200000006\n0200050001000200000003\n",
+    );
+    square(
+        b"0100040004\n0200000000000100000002\n0200010000000100000005\n0200020002000300000001\n0200030002000300000004\n0200040000000200000009\n0200050001000300000003\n0200060000000300000006\n0200070001000200000002\n",
+    );
+}

@@ -1,0 +1,136 @@
+/* Thinning: the services of libhost.a.
+ *
+ * Each function answers 0, or the number of the first refusal. After a refusal every buffer and every out-number is
+ * untouched. After an answer a buffer holds what is due to it at its start, and its old elements behind that.
+ *
+ * A buffer is a pointer to its first element and its number of elements. No function keeps a pointer after it
+ * returns, allocates memory or needs one call before another.
+ *
+ * What the caller sees to: each pointer is aligned and not null, an empty buffer's too, and points to as many elements
+ * as are said, an out-number's to one; what a function writes overlaps nothing else that it is given; during the call
+ * nobody else writes what it is given, or reads what it writes.
+ *
+ * thinning_plan and thinning_check_chain go as deep as there are vertices: at 256 vertices they were measured to take
+ * 1.85 MB of stack.
+ *
+ * The refusals:
+ *    1  the form: a broken line, a wrong kind or length, a missing frame, bytes left over; columns of a wrong length
+ *    2  the number of vertices is not 2 to 256
+ *    3  the reserved edge is none of the network's
+ *    4  an edge out of its place, or its ends are not two vertices of the network, the lower one first
+ *    5  a cost below -1000000000 or above 1000000000
+ *    6  a vertex without degree 4
+ *    7  a cut that fewer than four edges cross
+ *    8  a step's v is no end of the reserved edge
+ *    9  a step's x or y is no partner at v, or they are one
+ *   10  a step's x or y is not admissible
+ *   11  a step's x costs less than its y
+ *   12  the dropped edge is none of the last three, or cheaper than another of them
+ *   13  a buffer is too short for what is due to it
+ *   14  a listed edge is none of the network's, or not above the one before it
+ *
+ * A network of n vertices has 2n edges, which are numbered from 0. */
+#ifndef THINNING_H
+#define THINNING_H
+
+#include <stddef.h>
+#include <stdint.h>
+
+#ifdef __cplusplus
+extern "C" {
+#endif
+
+/* The most that a network has. */
+#define THINNING_VERTICES 256
+#define THINNING_EDGES 512
+#define THINNING_STEPS 254
+
+/* The most bytes that a text has. A buffer of so many is never too short. */
+#define THINNING_NETWORK_TEXT 11787
+#define THINNING_CHAIN_TEXT 3817
+#define THINNING_KEPT_TEXT 3612
+#define THINNING_LIST_TEXT 3584
+
+/* Checks a network text. Refusals: 1 to 5, whichever comes first in the text, then 6, then 7. */
+uint32_t thinning_check_network(const uint8_t *network, size_t network_len);
+
+/* Plans a network text: writes the chain text and the kept text, and their lengths in bytes.
+ * Refusals: 1 to 7 of the network, as in its check, then 13 if either buffer is too short.
+ * Room for every plan: chain 3817 bytes, kept 3612 bytes. */
+uint32_t thinning_plan(const uint8_t *network, size_t network_len,
+                       uint8_t *chain, size_t chain_len,
+                       uint8_t *kept, size_t kept_len,
+                       size_t *chain_written, size_t *kept_written);
+
+/* Checks any bytes proposed as a chain over a network text: writes the kept text, and its length in bytes.
+ * Refusals: 1 to 7 of the network, as in its check; then 1 and 8 to 12 of the chain, whichever comes first in it; then 13.
+ * Room for every chain: kept 3612 bytes. */
+uint32_t thinning_check_chain(const uint8_t *network, size_t network_len,
+                              const uint8_t *chain, size_t chain_len,
+                              uint8_t *kept, size_t kept_len,
+                              size_t *kept_written);
+
+/* Reads a network text: writes the lower end, the higher end and the cost of each edge, by its number, and the number
+ * of vertices and the reserved edge. Each column gets twice as many elements as there are vertices.
+ * Refusals: 1 to 5, whichever comes first in the text, then 13 if a column is too short. Degrees and cuts are not looked at.
+ * Room for every network: 512 elements in each column. */
+uint32_t thinning_read_network(const uint8_t *text, size_t text_len,
+                               uint16_t *low, size_t low_len,
+                               uint16_t *high, size_t high_len,
+                               int64_t *cost, size_t cost_len,
+                               size_t *vertices, size_t *reserved);
+
+/* Writes the network text of columns, which have as many elements as there are edges, and its length in bytes.
+ * Refusals: 2, 3, then 1 for a column of another length and 4 and 5 of the edges, whichever comes first by the edges'
+ * numbers, then 13. Degrees and cuts are not looked at.
+ * Room for every network: text 11787 bytes. */
+uint32_t thinning_write_network(size_t vertices, size_t reserved,
+                                const uint16_t *low, size_t low_len,
+                                const uint16_t *high, size_t high_len,
+                                const int64_t *cost, size_t cost_len,
+                                uint8_t *text, size_t text_len,
+                                size_t *written);
+
+/* Reads a chain text for so many vertices: writes v, x and y of each step, and the edge that the ending drops. Each
+ * column gets two elements fewer than there are vertices.
+ * Refusals: 2, then 1 of the text, then 13 if a column is too short. The steps are not judged.
+ * Room for every chain: 254 elements in each column. */
+uint32_t thinning_read_chain(size_t vertices,
+                             const uint8_t *text, size_t text_len,
+                             uint16_t *v, size_t v_len,
+                             uint16_t *x, size_t x_len,
+                             uint16_t *y, size_t y_len,
+                             uint16_t *dropped);
+
+/* Writes the chain text of columns, which have two elements fewer than there are vertices, and its length in bytes.
+ * Refusals: 2, then 1 for a column of another length, then 13. The steps are not judged.
+ * Room for every chain: text 3817 bytes. */
+uint32_t thinning_write_chain(size_t vertices,
+                              const uint16_t *v, size_t v_len,
+                              const uint16_t *x, size_t x_len,
+                              const uint16_t *y, size_t y_len,
+                              uint16_t dropped,
+                              uint8_t *text, size_t text_len,
+                              size_t *written);
+
+/* Reads an audit list for so many vertices: writes its edges, and how many they are.
+ * Refusals: 2, then 1 and 14 of the text, whichever comes first in it, then 13.
+ * Room for every list: 512 edges. */
+uint32_t thinning_read_list(size_t vertices,
+                            const uint8_t *text, size_t text_len,
+                            uint16_t *edges, size_t edges_len,
+                            size_t *count);
+
+/* Writes the audit list of rising edges, and its length in bytes.
+ * Refusals: 2, then 14, then 13.
+ * Room for every list: text 3584 bytes. */
+uint32_t thinning_write_list(size_t vertices,
+                             const uint16_t *edges, size_t edges_len,
+                             uint8_t *text, size_t text_len,
+                             size_t *written);
+
+#ifdef __cplusplus
+}
+#endif
+
+#endif
