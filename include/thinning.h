@@ -33,6 +33,7 @@
 #ifndef THINNING_H
 #define THINNING_H
 
+#include <stdbool.h>
 #include <stddef.h>
 #include <stdint.h>
 
@@ -69,6 +70,12 @@ uint32_t thinning_check_chain(const uint8_t *network, size_t network_len,
                               const uint8_t *chain, size_t chain_len,
                               uint8_t *kept, size_t kept_len,
                               size_t *kept_written);
+
+/* Audits a list over a network text, which must read but need not be accepted: whether the listed edges join all
+ * vertices, how many vertices they join to vertex 0 (itself included), and how many of them are critical.
+ * Refusals: 1 to 5 of the network, whichever comes first in the text, then 1 and 14 of the list. */
+uint32_t thinning_audit(const uint8_t *network, size_t network_len, const uint8_t *list, size_t list_len,
+                        bool *connected, size_t *reached, size_t *critical);
 
 /* Reads a network text: writes the lower end, the higher end and the cost of each edge, by its number, and the number
  * of vertices and the reserved edge. Each column gets twice as many elements as there are vertices.

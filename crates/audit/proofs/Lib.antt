@@ -4,3 +4,5 @@ pub mod Bits
 pub mod Sets
 pub mod Searching
 pub mod Answering
+pub mod ServiceMarks
+pub mod ServiceTexts

@@ -14,7 +14,11 @@ use incidence::NO_END;
 
 mod incidence;
 mod search;
+mod service;
 mod words;
+
+pub use service::Audited;
+pub use service::audit_list;
 
 // The answers for a list of edges.
 pub struct Answers {

@@ -1,6 +1,7 @@
 -- The numbers that an export gives, by what its service replies.
 -- Assumes nothing.
-use mathlib.Core.Path.{_≡_, refl}
+use mathlib.Core.Path.{_≡_, refl, ap}
+use mathlib.Core.Bool.{Bool}
 use mathlib.Core.List.{List}
 use Prim.Native.Nat.{ℕ}
 use native.Mathlib.Omega.{arith}
@@ -15,6 +16,9 @@ use Rattle.graph.specs.declared.Network.{Network}
 use Rattle.thinning.specs.declared.network.Acceptance.the-variants as acceptance
 use Rattle.thinning.specs.declared.planner.Planned.the-variants as planned
 use Rattle.thinning.specs.Services.{Texts, acceptanceOf, plannedOf}
+use Rattle.audit.specs.declared.Answers.{Answers}
+use Rattle.audit.specs.declared.service.Audited.the-variants as audited
+use Rattle.audit.specs.Service.{auditedOf}
 use Rattle.host.specs.Numbers.{numberOf, numberGiven}
 
 -- ── a network that is checked ──
@@ -84,3 +88,17 @@ pub chain-read : (a : Answer chains.Meaning) (s d : ℕ) → chain.Read s d ≡ 
 unfolding chains.readReply numberOf numberGiven
 chain-read (refused k) s d e i = let z : _≡_ {A = ℕ} 0 1 = cc in absurd (omega arith)
 chain-read (answer m) s d e i = (refl, cc)
+
+-- ── an audit ──
+pub audit-refused : (a : Answer Answers) (k : ℕ) → audited.Refused k ≡ auditedOf a → (b : Bool) (i j : ℕ)
+    → (k ≡ numberOf a) × ((b ≡ numberGiven (λ a. a .connected) a b) × ((i ≡ numberGiven (λ a. a .reached) a i) × (j ≡ numberGiven (λ a. a .critical) a j)))
+unfolding auditedOf numberOf numberGiven
+audit-refused (refused n) k e b i j = (cc, (refl, (refl, refl)))
+audit-refused (answer m) k e b i j = let z : _≡_ {A = ℕ} 0 1 = cc in absurd (omega arith)
+
+pub audit-answered : (a : Answer Answers) (m : Answers) → audited.Answered m ≡ auditedOf a → (b : Bool) (i j : ℕ)
+    → (0 ≡ numberOf a)
+    × ((m .connected ≡ numberGiven (λ a. a .connected) a b) × ((m .reached ≡ numberGiven (λ a. a .reached) a i) × (m .critical ≡ numberGiven (λ a. a .critical) a j)))
+unfolding auditedOf numberOf numberGiven
+audit-answered (refused k) m e b i j = let z : _≡_ {A = ℕ} 0 1 = cc in absurd (omega arith)
+audit-answered (answer n) m e b i j = let q : m ≡ n = cc in (refl, (ap (λ a. a .connected) q, (ap (λ a. a .reached) q, ap (λ a. a .critical) q)))

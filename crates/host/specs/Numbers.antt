@@ -7,7 +7,7 @@ unfoldable pub numberOf : {M : Type 0} → Answer M → ℕ
 numberOf (refused k) = k
 numberOf (answer m) = 0
 
--- an out-number afterwards: its part of the answer, or, after a refusal, its old value
-unfoldable pub numberGiven : {M : Type 0} → (M → ℕ) → Answer M → ℕ → ℕ
+-- an out-number, or a truth value given out, afterwards: its part of the answer, or, after a refusal, its old value
+unfoldable pub numberGiven : {M A : Type 0} → (M → A) → Answer M → A → A
 numberGiven part (refused k) old = old
 numberGiven part (answer m) old = part m
