@@ -1,4 +1,6 @@
 // Runs the services on the texts of document 01's district examples, and on a wrong text or chain for each refusal.
+use audit::Audited;
+use audit::audit_list;
 use frame::Reply;
 use libc::STDOUT_FILENO;
 use thinning::Acceptance;
@@ -63,6 +65,28 @@ fn chain_short(what: &[u8], text: &[u8], proposed: &[u8]) {
     }
 }
 
+// Says what a list is, and how its audit answers.
+fn list(what: &[u8], text: &[u8], listed: &[u8]) {
+    say(what);
+    say(b": ");
+    match audit_list(text, listed) {
+        Audited::Answered(answers) => {
+            if answers.connected {
+                say(b"joined, ");
+            } else {
+                say(b"not joined, ");
+            }
+            io::print_decimal(STDOUT_FILENO, answers.reached as u64);
+            say(b", critical ");
+            io::print_decimal(STDOUT_FILENO, answers.critical as u64);
+            say(b"\n");
+        }
+        Audited::Refused(number) => {
+            refused(number);
+        }
+    }
+}
+
 fn networks() {
     network(b"no text", b"");
     network(
@@ -117,6 +141,18 @@ fn chains(text: &[u8]) {
     chain_short(b"a buffer of 55 bytes", text, b"03000100040005\n040003\n");
 }
 
+// Lists of T's cables.
+fn lists(text: &[u8]) {
+    list(b"list 1, 2, 5", text, b"050001\n050002\n050005\n");
+    list(b"list 1, 2", text, b"050001\n050002\n");
+    list(b"list 4, 5", text, b"050004\n050005\n");
+    list(b"empty list", text, b"");
+    list(b"list 2, 1", text, b"050002\n050001\n");
+    list(b"list 6", text, b"050006\n");
+    list(b"a line of a list cut off", text, b"050001\n05000");
+    list(b"a list over no network", b"", b"");
+}
+
 // The district of four cabinets.
 fn square(text: &[u8]) {
     chain(
@@ -138,9 +174,10 @@ fn square(text: &[u8]) {
 
 fn main() {
     networks();
-    chains(
-        b"0100030000\n0200000000000100000007\n0200010000000100000004\n0200020000000200000001\n0200030000000200000002\n0200040001000200000006\n0200050001000200000003\n",
-    );
+    let printed =
+        b"0100030000\n0200000000000100000007\n0200010000000100000004\n0200020000000200000001\n0200030000000200000002\n0200040001000200000006\n0200050001000200000003\n";
+    chains(printed);
+    lists(printed);
     square(
         b"0100040004\n0200000000000100000002\n0200010000000100000005\n0200020002000300000001\n0200030002000300000004\n0200040000000200000009\n0200050001000300000003\n0200060000000300000006\n0200070001000200000002\n",
     );

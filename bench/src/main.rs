@@ -1,0 +1,116 @@
+//! Prints how long the linked services and the second program take for the same inputs.
+//!
+//! `cargo run --release --offline` prints a table: the core, the second program by the same method (`EveryFlow`:
+//! flows from one vertex to every other one) and by its faster one (`ContractedFlow`: one flow for a splitting), and
+//! how many times the second program's time the core takes. Each time is the shortest of a few runs; none is asserted.
+
+use std::hint::black_box;
+use std::thread;
+use std::time::{Duration, Instant};
+
+use second::generate::{self, CostStyle, Family, Rng};
+use second::lengths::LONGEST_NETWORK_TEXT;
+use second::{check_chain_by, check_network_by, plan_by, Method};
+
+const SIZES: [usize; 4] = [32, 64, 128, 256];
+const FAMILIES: [Family; 2] = [Family::TwoCycles, Family::PinchedNear];
+const SEED: u64 = 1;
+const RUNS: usize = 3;
+/// Reading is short, so that more runs are needed to meet an undisturbed one.
+const READING_RUNS: usize = 500;
+/// Bytes of stack that are to be enough for 256 vertices; a deeper call would end the program.
+const STACK: usize = 2_000_000;
+
+fn main() {
+    println!(
+        "{:>47}   {:>19}   {:>19}",
+        "core", "EveryFlow", "ContractedFlow"
+    );
+    println!(
+        "{:<12} {:>8}  {:<11} {:>12}   {:>12} {:>6}   {:>12} {:>6}",
+        "family", "vertices", "service", "ms", "ms", "ratio", "ms", "ratio"
+    );
+    for family in FAMILIES {
+        for vertices in SIZES {
+            let text = text(family, vertices);
+            on_small_stack(|| services(family, vertices, &text));
+        }
+    }
+    reading();
+}
+
+/// The network text that all services are given.
+fn text(family: Family, vertices: usize) -> Vec<u8> {
+    let mut rng = Rng::new(SEED);
+    let network = generate::network_of(&mut rng, family, vertices, CostStyle::Anything);
+    generate::text(&network)
+}
+
+/// Runs on a thread with a stack of so many bytes and no more.
+fn on_small_stack(work: impl FnOnce() + Send) {
+    thread::scope(|scope| {
+        thread::Builder::new()
+            .stack_size(STACK)
+            .spawn_scoped(scope, work)
+            .expect("a thread starts");
+    });
+}
+
+/// Prints a line for each service that looks at cuts.
+fn services(family: Family, vertices: usize, text: &[u8]) {
+    let chain = thinning::plan(text).expect("it is accepted").chain;
+    let line = |service: &str, core: Duration, second: [Duration; 2]| {
+        print!("{:<12} {vertices:>8}  {service:<11}", format!("{family:?}"));
+        print!(" {:>12.3}", milliseconds(core));
+        for time in second {
+            let ratio = core.as_secs_f64() / time.as_secs_f64();
+            print!("   {:>12.3} {ratio:>6.2}", milliseconds(time));
+        }
+        println!();
+    };
+    let methods = [Method::EveryFlow, Method::ContractedFlow];
+    line(
+        "check",
+        shortest(RUNS, || thinning::check_network(text)),
+        methods.map(|method| shortest(RUNS, || check_network_by(text, method))),
+    );
+    line(
+        "plan",
+        shortest(RUNS, || thinning::plan(text)),
+        methods.map(|method| shortest(RUNS, || plan_by(text, method))),
+    );
+    line(
+        "chain check",
+        shortest(RUNS, || thinning::check_chain(text, &chain)),
+        methods.map(|method| shortest(RUNS, || check_chain_by(text, &chain, method))),
+    );
+}
+
+/// Prints how long both readers take for the longest network text.
+fn reading() {
+    let text = text(Family::TwoCycles, 256);
+    assert_eq!(text.len(), LONGEST_NETWORK_TEXT);
+    let core = shortest(READING_RUNS, || thinning::read_network(&text));
+    let second = shortest(READING_RUNS, || second::read_network(&text));
+    println!(
+        "reading {} bytes: core {:.4} ms, second {:.4} ms, ratio {:.2}",
+        text.len(),
+        milliseconds(core),
+        milliseconds(second),
+        core.as_secs_f64() / second.as_secs_f64(),
+    );
+}
+
+/// The shortest of so many runs.
+fn shortest<T>(runs: usize, mut work: impl FnMut() -> T) -> Duration {
+    let timed = (0..runs).map(|_| {
+        let start = Instant::now();
+        black_box(work());
+        start.elapsed()
+    });
+    timed.min().expect("there are runs")
+}
+
+fn milliseconds(time: Duration) -> f64 {
+    time.as_secs_f64() * 1_000.0
+}

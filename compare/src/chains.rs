@@ -1,0 +1,139 @@
+//! Chains: check, reader and writer.
+
+use second::generate::{self, aimed_chain, chain_by_rule, changed_chain, Aim, Rng};
+use second::properties::judge_kept;
+use second::{columns, Chain, Network};
+use thinning::raw;
+
+use crate::buffers::{compare, due_length, lengths, Lent, Number};
+use crate::networks::{any_text, writer, MANY_VERTICES};
+
+/// The chain check on chains by rule, changed ones and ones with a fault aimed at, over an
+/// accepted network and over any text.
+pub fn checks(rng: &mut Rng) -> Result<(), String> {
+    let vertices = generate::size(rng);
+    let network = generate::network(rng, vertices);
+    let text = generate::text(&network);
+    let seldom = vertices > MANY_VERTICES;
+    let mut chains = vec![by_rule(rng, &network), changed_chain(rng, &network)];
+    let aim = rng.pick(&Aim::ALL);
+    if let Some(aimed) = aimed_chain(rng, &network, aim) {
+        let due = second::check_chain(&text, &aimed.chain).err();
+        if due != aimed.refusal {
+            return Err(format!("{aim:?}: the second program answers {due:?}"));
+        }
+        chains.push(aimed.chain);
+    }
+    if seldom {
+        rng.shuffle(&mut chains);
+        chains.truncate(1);
+    }
+    for chain in &chains {
+        check(rng, &text, chain, seldom)?;
+    }
+    // The network's refusals come before the chain's.
+    let other = any_text(rng);
+    check(rng, &other, &chains[0], true)
+}
+
+fn by_rule(rng: &mut Rng, network: &Network) -> Vec<u8> {
+    let chain = chain_by_rule(rng, network);
+    second::write_chain(network.vertices, &chain).expect("the chain has all its steps")
+}
+
+fn check(rng: &mut Rng, network: &[u8], chain: &[u8], seldom: bool) -> Result<(), String> {
+    let (kept_due, refusal) = match second::check_chain(network, chain) {
+        Ok(kept) => (kept, None),
+        Err(refusal) => (Vec::new(), Some(refusal)),
+    };
+    let due = due_length(rng, refusal.is_none().then_some(&kept_due[..]));
+    for [length] in lengths(rng, [due], seldom) {
+        let mut kept = Lent::new(rng, length);
+        let mut written = Number::new(rng);
+        let answer = raw::check_chain(network, chain, kept.buffer(), written.place());
+        compare(
+            "chain check",
+            answer,
+            refusal,
+            &[&(&kept, &kept_due[..]), &(&written, kept_due.len())],
+        )?;
+        if answer == 0 {
+            let written = &kept.buffer()[..kept_due.len()];
+            judge_kept(network, written).map_err(|fault| format!("chain check: {fault}"))?;
+        }
+    }
+    Ok(())
+}
+
+/// Reader and writer on columns with any numbers, which may differ in length, and on their
+/// texts, whole and damaged.
+pub fn texts_and_columns(rng: &mut Rng) -> Result<(), String> {
+    let given = generate::chain_columns(rng);
+    let (v, x, y) = (&given.v[..], &given.x[..], &given.y[..]);
+    let text = columns::write_chain(given.vertices, v, x, y, given.dropped);
+    writer("chain writer", rng, &text, |text, written| {
+        raw::write_chain(given.vertices, v, x, y, given.dropped, text, written)
+    })?;
+    // What was refused is read as the text of whole rows, for its wrong count.
+    let text = text.unwrap_or_else(|_| rows(v, x, y, given.dropped));
+    read(rng, given.vertices, &text)?;
+    let damaged = generate::damage(rng, &text);
+    read(rng, given.vertices, &damaged)?;
+    let count = rng.pick(&[0, 1, 2, 3, 255, 256, 257, usize::MAX]);
+    read(rng, count, &text)
+}
+
+/// Frames of the rows that all columns have, and an ending.
+fn rows(v: &[u16], x: &[u16], y: &[u16], dropped: u16) -> Vec<u8> {
+    let mut text = Vec::new();
+    for ((&v, &x), &y) in v.iter().zip(x).zip(y) {
+        second::texts::write_step(second::Step { v, x, y }, &mut text);
+    }
+    second::texts::write_ending(dropped, &mut text);
+    text
+}
+
+fn read(rng: &mut Rng, vertices: usize, text: &[u8]) -> Result<(), String> {
+    let (chain, refusal) = match second::read_chain(vertices, text) {
+        Ok(chain) => (chain, None),
+        Err(refusal) => (nothing(), Some(refusal)),
+    };
+    let v_due: Vec<u16> = chain.steps.iter().map(|step| step.v).collect();
+    let x_due: Vec<u16> = chain.steps.iter().map(|step| step.x).collect();
+    let y_due: Vec<u16> = chain.steps.iter().map(|step| step.y).collect();
+    let due = due_length(rng, refusal.is_none().then_some(&v_due[..]));
+    for lengths in lengths(rng, [due; 3], false) {
+        let mut v = Lent::new(rng, lengths[0]);
+        let mut x = Lent::new(rng, lengths[1]);
+        let mut y = Lent::new(rng, lengths[2]);
+        let mut dropped = Number::new(rng);
+        let answer = raw::read_chain(
+            vertices,
+            text,
+            v.buffer(),
+            x.buffer(),
+            y.buffer(),
+            dropped.place(),
+        );
+        compare(
+            "chain reader",
+            answer,
+            refusal,
+            &[
+                &(&v, &v_due[..]),
+                &(&x, &x_due[..]),
+                &(&y, &y_due[..]),
+                &(&dropped, chain.dropped),
+            ],
+        )?;
+    }
+    Ok(())
+}
+
+/// What a refused text means.
+fn nothing() -> Chain {
+    Chain {
+        steps: Vec::new(),
+        dropped: 0,
+    }
+}

@@ -1,0 +1,180 @@
+//! Networks: check, plan, reader and writer.
+
+use second::generate::{self, NetworkAim, Rng};
+use second::lengths::LONGEST_NETWORK_TEXT;
+use second::properties::judge_kept;
+use second::{columns, Network, Plan, Refusal};
+use thinning::raw;
+
+use crate::buffers::{compare, due_length, lengths, Lent, Number};
+
+/// Plans and chain checks of networks with more vertices take long.
+pub const MANY_VERTICES: usize = 48;
+
+/// A network text: mostly an accepted one, else a fault, damage or junk.
+pub fn any_text(rng: &mut Rng) -> Vec<u8> {
+    let vertices = generate::size(rng);
+    match rng.below(8) {
+        0..4 => generate::text(&generate::network(rng, vertices)),
+        4 | 5 => {
+            let aim = rng.pick(&NetworkAim::ALL);
+            generate::aimed_network(rng, aim, vertices.max(8)).0
+        }
+        6 => {
+            let network = generate::network(rng, vertices);
+            generate::damage(rng, &generate::text(&network))
+        }
+        _ => {
+            let length = rng.below(LONGEST_NETWORK_TEXT + 200);
+            (0..length)
+                .map(|_| rng.pick(b"0123456789abcdefA\r\n"))
+                .collect()
+        }
+    }
+}
+
+/// Check, plan and reader on any text.
+pub fn texts(rng: &mut Rng) -> Result<(), String> {
+    let text = any_text(rng);
+    let refusal = second::check_network(&text).err();
+    compare("network check", raw::check_network(&text), refusal, &[])?;
+    plan(rng, &text)?;
+    read(rng, &text)
+}
+
+fn plan(rng: &mut Rng, text: &[u8]) -> Result<(), String> {
+    let (plan, refusal) = match second::plan(text) {
+        Ok(plan) => (Some(plan), None),
+        Err(refusal) => (None, Some(refusal)),
+    };
+    let due = [
+        due_length(rng, plan.as_ref().map(|plan| &plan.chain[..])),
+        due_length(rng, plan.as_ref().map(|plan| &plan.kept[..])),
+    ];
+    let seldom = text.len() > second::lengths::network_text(MANY_VERTICES);
+    for lengths in lengths(rng, due, seldom) {
+        plan_into(rng, text, plan.as_ref(), refusal, lengths)?;
+    }
+    Ok(())
+}
+
+fn plan_into(
+    rng: &mut Rng,
+    text: &[u8],
+    plan: Option<&Plan>,
+    refusal: Option<Refusal>,
+    lengths: [usize; 2],
+) -> Result<(), String> {
+    let mut chain = Lent::new(rng, lengths[0]);
+    let mut kept = Lent::new(rng, lengths[1]);
+    let (mut chain_written, mut kept_written) = (Number::new(rng), Number::new(rng));
+    let answer = raw::plan(
+        text,
+        chain.buffer(),
+        kept.buffer(),
+        chain_written.place(),
+        kept_written.place(),
+    );
+    let (chain_due, kept_due) = plan.map_or((&[][..], &[][..]), |plan| (&plan.chain, &plan.kept));
+    compare(
+        "plan",
+        answer,
+        refusal,
+        &[
+            &(&chain, chain_due),
+            &(&kept, kept_due),
+            &(&chain_written, chain_due.len()),
+            &(&kept_written, kept_due.len()),
+        ],
+    )?;
+    if answer != 0 {
+        return Ok(());
+    }
+    let written = &kept.buffer()[..kept_due.len()];
+    judge_kept(text, written).map_err(|fault| format!("plan: {fault}"))
+}
+
+fn read(rng: &mut Rng, text: &[u8]) -> Result<(), String> {
+    let (network, refusal) = match second::read_network(text) {
+        Ok(network) => (network, None),
+        Err(refusal) => (nothing(), Some(refusal)),
+    };
+    let low_due: Vec<u16> = network.edges.iter().map(|edge| edge.low).collect();
+    let high_due: Vec<u16> = network.edges.iter().map(|edge| edge.high).collect();
+    let cost_due: Vec<i64> = network.edges.iter().map(|edge| edge.cost).collect();
+    let due = due_length(rng, refusal.is_none().then_some(&low_due[..]));
+    for lengths in lengths(rng, [due; 3], false) {
+        let mut low = Lent::new(rng, lengths[0]);
+        let mut high = Lent::new(rng, lengths[1]);
+        let mut cost = Lent::new(rng, lengths[2]);
+        let (mut vertices, mut reserved) = (Number::new(rng), Number::new(rng));
+        let answer = raw::read_network(
+            text,
+            low.buffer(),
+            high.buffer(),
+            cost.buffer(),
+            vertices.place(),
+            reserved.place(),
+        );
+        compare(
+            "network reader",
+            answer,
+            refusal,
+            &[
+                &(&low, &low_due[..]),
+                &(&high, &high_due[..]),
+                &(&cost, &cost_due[..]),
+                &(&vertices, network.vertices),
+                &(&reserved, network.reserved),
+            ],
+        )?;
+    }
+    Ok(())
+}
+
+/// What a refused text means.
+fn nothing() -> Network {
+    Network {
+        vertices: 0,
+        reserved: 0,
+        edges: Vec::new(),
+    }
+}
+
+/// The writer on columns, which may differ in length.
+pub fn columns(rng: &mut Rng) -> Result<(), String> {
+    let given = generate::network_columns(rng);
+    let (vertices, reserved) = (given.vertices, given.reserved);
+    let (low, high, cost) = (&given.low[..], &given.high[..], &given.cost[..]);
+    let due = columns::write_network(vertices, reserved, low, high, cost);
+    writer("network writer", rng, &due, |text, written| {
+        raw::write_network(vertices, reserved, low, high, cost, text, written)
+    })
+}
+
+/// Any writer, with buffers of every length.
+pub fn writer(
+    service: &str,
+    rng: &mut Rng,
+    due: &Result<Vec<u8>, Refusal>,
+    write: impl Fn(&mut [u8], &mut usize) -> u32,
+) -> Result<(), String> {
+    let (text_due, refusal) = match due {
+        Ok(text) => (&text[..], None),
+        Err(refusal) => (&[][..], Some(*refusal)),
+    };
+    let due = due_length(rng, due.as_deref().ok());
+    for [length] in lengths(rng, [due], false) {
+        let mut text = Lent::new(rng, length);
+        let mut written = Number::new(rng);
+        let answer = write(text.buffer(), written.place());
+        let lent = (&text, text_due);
+        compare(
+            service,
+            answer,
+            refusal,
+            &[&lent, &(&written, text_due.len())],
+        )?;
+    }
+    Ok(())
+}

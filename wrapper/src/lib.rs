@@ -1,0 +1,46 @@
+//! Thinning of four-port networks: safe functions over the verified services of libhost.a.
+//!
+//! Here every answer comes in vectors of its own. [`raw`] has the same services over slices that the caller lends.
+//!
+//! [`plan`] and [`check_chain`] go as deep as there are vertices: a thread that calls them needs 2 MB of stack for
+//! 256 vertices, which the threads of the standard library have.
+//!
+//! ```
+//! let network = b"0100020000\n\
+//!     0200000000000100000005\n\
+//!     02000100000001ffffffff\n\
+//!     0200020000000100000003\n\
+//!     0200030000000100000003\n";
+//! let plan = thinning::plan(network).unwrap();
+//! assert_eq!(plan.chain, b"040003\n");
+//! assert_eq!(thinning::check_chain(network, &plan.chain), Ok(plan.kept));
+//! ```
+
+#![deny(unsafe_code)]
+
+mod meanings;
+#[allow(unsafe_code)]
+pub mod raw;
+mod refusal;
+mod texts;
+
+pub use meanings::{
+    read_chain, read_list, read_network, write_chain, write_list, write_network, Chain, Network,
+};
+pub use refusal::Refusal;
+pub use texts::{check_chain, check_network, plan, Plan};
+
+/// The most vertices of a network.
+pub const VERTICES: usize = 256;
+/// The most edges of a network.
+pub const EDGES: usize = 512;
+/// The most steps of a chain.
+pub const STEPS: usize = 254;
+/// The most bytes of a network text.
+pub const NETWORK_TEXT: usize = 11_787;
+/// The most bytes of a chain text.
+pub const CHAIN_TEXT: usize = 3_817;
+/// The most bytes of a kept text.
+pub const KEPT_TEXT: usize = 3_612;
+/// The most bytes of an audit list.
+pub const LIST_TEXT: usize = 3_584;

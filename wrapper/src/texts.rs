@@ -1,0 +1,42 @@
+//! The services that take and give texts.
+
+use crate::{raw, Refusal, CHAIN_TEXT, KEPT_TEXT};
+
+/// What the planner writes.
+#[derive(Clone, Debug, PartialEq, Eq)]
+pub struct Plan {
+    /// The chain text.
+    pub chain: Vec<u8>,
+    /// The kept text.
+    pub kept: Vec<u8>,
+}
+
+/// Checks a network text: refusals 1 to 7.
+pub fn check_network(network: &[u8]) -> Result<(), Refusal> {
+    Refusal::judge(raw::check_network(network))
+}
+
+/// Plans a network text: refusals 1 to 7.
+pub fn plan(network: &[u8]) -> Result<Plan, Refusal> {
+    let (mut chain, mut kept) = (vec![0; CHAIN_TEXT], vec![0; KEPT_TEXT]);
+    let (mut chain_written, mut kept_written) = (0, 0);
+    Refusal::judge(raw::plan(
+        network,
+        &mut chain,
+        &mut kept,
+        &mut chain_written,
+        &mut kept_written,
+    ))?;
+    chain.truncate(chain_written);
+    kept.truncate(kept_written);
+    Ok(Plan { chain, kept })
+}
+
+/// Checks any bytes as a chain over a network text and gives the kept text: refusals 1 to 12.
+pub fn check_chain(network: &[u8], chain: &[u8]) -> Result<Vec<u8>, Refusal> {
+    let mut kept = vec![0; KEPT_TEXT];
+    let mut written = 0;
+    Refusal::judge(raw::check_chain(network, chain, &mut kept, &mut written))?;
+    kept.truncate(written);
+    Ok(kept)
+}

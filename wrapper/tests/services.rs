@@ -1,0 +1,125 @@
+//! Each service on the printed network of document 01, and its refusals.
+
+use thinning::{raw, Chain, Network, Refusal};
+
+const NETWORK: &[u8] = b"\
+0100030000
+0200000000000100000007
+0200010000000100000004
+0200020000000200000001
+0200030000000200000002
+0200040001000200000006
+0200050001000200000003
+";
+const CHAIN: &[u8] = b"03000100040005\n040003\n";
+const KEPT: &[u8] = b"050001\n050002\n050005\n0600000000000000080000000000000010\n";
+
+fn meaning() -> Network {
+    Network {
+        vertices: 3,
+        reserved: 0,
+        low: vec![0, 0, 0, 0, 1, 1],
+        high: vec![1, 1, 2, 2, 2, 2],
+        cost: vec![7, 4, 1, 2, 6, 3],
+    }
+}
+
+/// The network with some bytes exchanged for others.
+fn changed(from: &str, to: &str) -> Vec<u8> {
+    let text = String::from_utf8(NETWORK.to_vec()).expect("digits");
+    assert!(text.contains(from));
+    text.replacen(from, to, 1).into_bytes()
+}
+
+#[test]
+fn the_printed_network_is_planned() {
+    assert_eq!(thinning::check_network(NETWORK), Ok(()));
+    let plan = thinning::plan(NETWORK).expect("it is accepted");
+    assert_eq!(plan.chain, CHAIN);
+    assert_eq!(plan.kept, KEPT);
+    assert_eq!(thinning::check_chain(NETWORK, CHAIN), Ok(KEPT.to_vec()));
+}
+
+#[test]
+fn a_network_is_refused_by_name() {
+    let cases = [
+        (changed("0100030000\n", "0100030000"), Refusal::Form),
+        (changed("0100030000", "0100010000"), Refusal::Vertices),
+        (changed("0100030000", "0100030006"), Refusal::Reserved),
+        (changed("020001", "020000"), Refusal::Edge),
+        (changed("00000007", "7fffffff"), Refusal::Cost),
+        (changed("02000100000001", "02000100000002"), Refusal::Degree),
+    ];
+    for (text, refusal) in cases {
+        assert_eq!(thinning::check_network(&text), Err(refusal));
+        assert_eq!(thinning::plan(&text), Err(refusal));
+        assert_eq!(thinning::check_chain(&text, CHAIN), Err(refusal));
+    }
+}
+
+#[test]
+fn a_chain_is_refused_by_name() {
+    let cases: [(&[u8], Refusal); 5] = [
+        (b"", Refusal::Form),
+        (b"03000200040005\n040003\n", Refusal::StepVertex),
+        (b"03000100000005\n040003\n", Refusal::StepPartner),
+        (b"03000100050004\n040003\n", Refusal::CheaperX),
+        (b"03000100040005\n040000\n", Refusal::Dropped),
+    ];
+    for (chain, refusal) in cases {
+        assert_eq!(thinning::check_chain(NETWORK, chain), Err(refusal));
+    }
+}
+
+#[test]
+fn readers_and_writers_are_inverse() {
+    assert_eq!(thinning::read_network(NETWORK), Ok(meaning()));
+    assert_eq!(thinning::write_network(&meaning()), Ok(NETWORK.to_vec()));
+    let chain = Chain {
+        v: vec![1],
+        x: vec![4],
+        y: vec![5],
+        dropped: 3,
+    };
+    assert_eq!(thinning::write_chain(3, &chain), Ok(CHAIN.to_vec()));
+    assert_eq!(thinning::read_chain(3, CHAIN), Ok(chain));
+    assert_eq!(thinning::read_list(3, b"050001\n050005\n"), Ok(vec![1, 5]));
+    assert_eq!(
+        thinning::write_list(3, &[1, 5]),
+        Ok(b"050001\n050005\n".to_vec())
+    );
+    assert_eq!(thinning::read_list(3, b""), Ok(Vec::new()));
+}
+
+#[test]
+fn meanings_are_refused_by_name() {
+    let mut short = meaning();
+    short.cost.pop();
+    assert_eq!(thinning::write_network(&short), Err(Refusal::Form));
+    assert_eq!(thinning::read_chain(257, CHAIN), Err(Refusal::Vertices));
+    assert_eq!(
+        thinning::read_chain(usize::MAX, CHAIN),
+        Err(Refusal::Vertices)
+    );
+    assert_eq!(thinning::write_list(3, &[5, 5]), Err(Refusal::Listed));
+    assert_eq!(thinning::read_list(3, b"050006\n"), Err(Refusal::Listed));
+}
+
+#[test]
+fn a_short_buffer_is_left_alone() {
+    let mut chain = [7; 22];
+    let mut kept = [9; 55];
+    let (mut chain_written, mut kept_written) = (5, 6);
+    let answer = raw::plan(
+        NETWORK,
+        &mut chain,
+        &mut kept,
+        &mut chain_written,
+        &mut kept_written,
+    );
+    assert_eq!(answer, Refusal::ShortBuffer.number());
+    assert_eq!((chain, kept), ([7; 22], [9; 55]));
+    assert_eq!((chain_written, kept_written), (5, 6));
+    assert_eq!(raw::check_chain(NETWORK, CHAIN, &mut [], &mut 0), 13);
+    assert_eq!(raw::read_list(3, b"", &mut [], &mut 0), 0);
+}
