@@ -2,15 +2,19 @@
 //!
 //! `cargo run --release --offline` prints a table: the core, the second program by the same method (`EveryFlow`:
 //! flows from one vertex to every other one) and by its faster one (`ContractedFlow`: one flow for a splitting), and
-//! how many times the second program's time the core takes. Each time is the shortest of a few runs; none is asserted.
+//! how many times the second program's time the core takes. For the audit the two columns are its two ways, each listed
+//! edge left out in turn (as the core does) and one search for bridges. Each time is the shortest of a few runs; none is asserted.
 
 use std::hint::black_box;
 use std::thread;
 use std::time::{Duration, Instant};
 
+use second::audit::audit_list_by_definition;
 use second::generate::{self, CostStyle, Family, Rng};
 use second::lengths::LONGEST_NETWORK_TEXT;
-use second::{check_chain_by, check_network_by, plan_by, Method};
+use second::{
+    audit, check_chain_by, check_network_by, plan_by, read_list, read_network, write_list, Method,
+};
 
 const SIZES: [usize; 4] = [32, 64, 128, 256];
 const FAMILIES: [Family; 2] = [Family::TwoCycles, Family::PinchedNear];
@@ -83,6 +87,24 @@ fn services(family: Family, vertices: usize, text: &[u8]) {
         "chain check",
         shortest(RUNS, || thinning::check_chain(text, &chain)),
         methods.map(|method| shortest(RUNS, || check_chain_by(text, &chain, method))),
+    );
+    let edges: Vec<u16> = (0..2 * vertices)
+        .map(|e| u16::try_from(e).expect("few edges"))
+        .collect();
+    let list = write_list(vertices, &edges).expect("the list rises");
+    // The second program's two ways: each listed edge left out in turn, as the core does it, and one search for bridges.
+    let by_definition = || {
+        let network = read_network(text).expect("it reads");
+        let edges = read_list(vertices, &list).expect("it reads");
+        audit_list_by_definition(&network, &edges)
+    };
+    line(
+        "audit",
+        shortest(RUNS, || thinning::audit(text, &list)),
+        [
+            shortest(RUNS, by_definition),
+            shortest(RUNS, || audit(text, &list)),
+        ],
     );
 }
 

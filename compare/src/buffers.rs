@@ -44,6 +44,12 @@ impl Filling for usize {
     }
 }
 
+impl Filling for bool {
+    fn filling(bits: u64) -> bool {
+        bits % 2 == 1
+    }
+}
+
 /// A buffer between guards.
 pub struct Lent<T> {
     before: Vec<T>,

@@ -1,6 +1,6 @@
-//! Audit lists: reader and writer.
+//! Audit lists: reader, writer and the audit.
 
-use second::generate::{self, Rng};
+use second::generate::{self, NetworkAim, Rng, Shapeless};
 use thinning::raw;
 
 use crate::buffers::{compare, due_length, lengths, Lent, Number};
@@ -48,4 +48,56 @@ pub fn meanings(rng: &mut Rng) -> Result<(), String> {
     writer("list writer", rng, &due, |text, written| {
         raw::write_list(vertices, &edges, text, written)
     })
+}
+
+/// The audit of lists over networks, accepted or not, over broken ones, and of damaged lists.
+pub fn audits(rng: &mut Rng) -> Result<(), String> {
+    let vertices = generate::size(rng).max(8);
+    let network = generate::network(rng, vertices);
+    let text = generate::text(&network);
+    let edges = generate::list(rng, &network);
+    let list = second::write_list(vertices, &edges).expect("the list rises");
+    audit(rng, &text, &list)?;
+    let damaged = generate::damage(rng, &list);
+    audit(rng, &text, &damaged)?;
+    let (aimed, _) = generate::aimed_list(rng, &network);
+    audit(rng, &text, &aimed)?;
+    let shape = rng.pick(&Shapeless::ALL);
+    let graph = shape.multigraph(rng, vertices.max(shape.fewest_vertices()));
+    let style = rng.pick(&generate::CostStyle::ALL);
+    let loose = generate::dress(rng, &graph, style);
+    let edges = generate::list(rng, &loose);
+    let loose_list = second::write_list(loose.vertices, &edges).expect("the list rises");
+    audit(rng, &generate::text(&loose), &loose_list)?;
+    let aim = rng.pick(&NetworkAim::ALL);
+    let (broken, _) = generate::aimed_network(rng, aim, vertices);
+    audit(rng, &broken, &list)
+}
+
+fn audit(rng: &mut Rng, network: &[u8], list: &[u8]) -> Result<(), String> {
+    let due = second::audit(network, list);
+    let (connected_due, reached_due, critical_due) = match due {
+        Ok(audit) => (audit.connected, audit.reached, audit.critical),
+        Err(_) => (false, 0, 0),
+    };
+    let mut connected = Number::new(rng);
+    let mut reached = Number::new(rng);
+    let mut critical = Number::new(rng);
+    let answer = raw::audit(
+        network,
+        list,
+        connected.place(),
+        reached.place(),
+        critical.place(),
+    );
+    compare(
+        "audit",
+        answer,
+        due.err(),
+        &[
+            &(&connected, connected_due),
+            &(&reached, reached_due),
+            &(&critical, critical_due),
+        ],
+    )
 }

@@ -21,7 +21,7 @@ const SEED: u64 = 1;
 /// A part of a round: nothing, or what differs.
 type Part = fn(&mut Rng) -> Result<(), String>;
 
-const PARTS: [Part; 7] = [
+const PARTS: [Part; 8] = [
     program::plan,
     networks::texts,
     networks::columns,
@@ -29,6 +29,7 @@ const PARTS: [Part; 7] = [
     chains::texts_and_columns,
     lists::texts,
     lists::meanings,
+    lists::audits,
 ];
 
 /// One round: every part starts from numbers of its own.

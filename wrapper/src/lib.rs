@@ -28,7 +28,7 @@ pub use meanings::{
     read_chain, read_list, read_network, write_chain, write_list, write_network, Chain, Network,
 };
 pub use refusal::Refusal;
-pub use texts::{check_chain, check_network, plan, Plan};
+pub use texts::{audit, check_chain, check_network, plan, Audit, Plan};
 
 /// The most vertices of a network.
 pub const VERTICES: usize = 256;

@@ -30,6 +30,15 @@ mod declared {
             kept_len: usize,
             kept_written: *mut usize,
         ) -> u32;
+        pub fn thinning_audit(
+            network: *const u8,
+            network_len: usize,
+            list: *const u8,
+            list_len: usize,
+            connected: *mut bool,
+            reached: *mut usize,
+            critical: *mut usize,
+        ) -> u32;
         pub fn thinning_read_network(
             text: *const u8,
             text_len: usize,
@@ -278,6 +287,29 @@ pub fn write_list(vertices: usize, edges: &[u16], text: &mut [u8], written: &mut
             text.as_mut_ptr(),
             text.len(),
             written,
+        )
+    }
+}
+
+/// Audits a list over a network text: whether it joins all vertices, how many it joins to vertex 0, and how many of
+/// its edges are critical.
+pub fn audit(
+    network: &[u8],
+    list: &[u8],
+    connected: &mut bool,
+    reached: &mut usize,
+    critical: &mut usize,
+) -> u32 {
+    // SAFETY: both texts are slices that are only read; the truth value and both numbers are lent to this call alone.
+    unsafe {
+        declared::thinning_audit(
+            network.as_ptr(),
+            network.len(),
+            list.as_ptr(),
+            list.len(),
+            connected,
+            reached,
+            critical,
         )
     }
 }

@@ -11,6 +11,17 @@ pub struct Plan {
     pub kept: Vec<u8>,
 }
 
+/// What the audit of a list answers.
+#[derive(Clone, Copy, Debug, PartialEq, Eq)]
+pub struct Audit {
+    /// Whether the listed edges join all vertices.
+    pub connected: bool,
+    /// How many vertices they join to vertex 0, itself included.
+    pub reached: usize,
+    /// How many of them are critical.
+    pub critical: usize,
+}
+
 /// Checks a network text: refusals 1 to 7.
 pub fn check_network(network: &[u8]) -> Result<(), Refusal> {
     Refusal::judge(raw::check_network(network))
@@ -39,4 +50,21 @@ pub fn check_chain(network: &[u8], chain: &[u8]) -> Result<Vec<u8>, Refusal> {
     Refusal::judge(raw::check_chain(network, chain, &mut kept, &mut written))?;
     kept.truncate(written);
     Ok(kept)
+}
+
+/// Audits a list over a network text, which need not be accepted: refusals 1 to 5 and 14.
+pub fn audit(network: &[u8], list: &[u8]) -> Result<Audit, Refusal> {
+    let mut answer = Audit {
+        connected: false,
+        reached: 0,
+        critical: 0,
+    };
+    Refusal::judge(raw::audit(
+        network,
+        list,
+        &mut answer.connected,
+        &mut answer.reached,
+        &mut answer.critical,
+    ))?;
+    Ok(answer)
 }
