@@ -11,6 +11,9 @@ use crate::buffers::{compare, due_length, lengths, Lent, Number};
 /// Plans and chain checks of networks with more vertices take long.
 pub const MANY_VERTICES: usize = 48;
 
+/// Bytes of junk, many times the longest text.
+const LONG_JUNK: usize = 200_000;
+
 /// A network text: mostly an accepted one, else a fault, damage or junk.
 pub fn any_text(rng: &mut Rng) -> Vec<u8> {
     let vertices = generate::size(rng);
@@ -25,7 +28,9 @@ pub fn any_text(rng: &mut Rng) -> Vec<u8> {
             generate::damage(rng, &generate::text(&network))
         }
         _ => {
-            let length = rng.below(LONGEST_NETWORK_TEXT + 200);
+            // Now and then far more than any text has.
+            let most = rng.pick(&[64, LONGEST_NETWORK_TEXT + 200, LONG_JUNK]);
+            let length = rng.below(most);
             (0..length)
                 .map(|_| rng.pick(b"0123456789abcdefA\r\n"))
                 .collect()
