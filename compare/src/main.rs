@@ -14,6 +14,7 @@ mod chains;
 mod lists;
 mod networks;
 mod program;
+mod vectors;
 
 const ROUNDS: u64 = 2_000;
 const SEED: u64 = 1;
@@ -21,7 +22,7 @@ const SEED: u64 = 1;
 /// A part of a round: nothing, or what differs.
 type Part = fn(&mut Rng) -> Result<(), String>;
 
-const PARTS: [Part; 8] = [
+const PARTS: [Part; 11] = [
     program::plan,
     networks::texts,
     networks::columns,
@@ -30,6 +31,9 @@ const PARTS: [Part; 8] = [
     lists::texts,
     lists::meanings,
     lists::audits,
+    vectors::networks,
+    vectors::chains,
+    vectors::lists,
 ];
 
 /// One round: every part starts from numbers of its own.

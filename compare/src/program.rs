@@ -34,12 +34,24 @@ fn output_of(program: &Path, input: &[u8]) -> io::Result<Vec<u8>> {
     Ok(output.stdout)
 }
 
-/// The same bytes from both, and a plan that keeps what is promised of it.
+/// What the linked planner gives, which is another build of the same core.
+fn linked_output(text: &[u8]) -> Vec<u8> {
+    match thinning::plan(text) {
+        Ok(plan) => [plan.chain, plan.kept].concat(),
+        Err(refusal) => format!("0f{:02x}\n", refusal.number()).into_bytes(),
+    }
+}
+
+/// The same bytes from the program, from the linked planner twice and from the second
+/// program, and a plan that keeps what is promised of it.
 pub fn plan(rng: &mut Rng) -> Result<(), String> {
     let text = networks::any_text(rng);
     let written = output_of(&program(), &text).map_err(|error| format!("plan program: {error}"))?;
     if written != plan_output(&text, Method::Mixed) {
         return Err("plan program: the outputs differ".to_owned());
+    }
+    if written != linked_output(&text) || written != linked_output(&text) {
+        return Err("plan program: the linked planner gives other bytes".to_owned());
     }
     match second::plan(&text) {
         Ok(plan) => judge_kept(&text, &plan.kept).map_err(|fault| format!("plan program: {fault}")),

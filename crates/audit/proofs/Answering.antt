@@ -8,7 +8,7 @@ use native.Mathlib.Decide.{ℕ-discrete, decLt}
 use lib.Dec.{eqb}
 use lib.ListN.{length, set, List·getD-eq-default}
 use lib.Seq.{getD-set-same, getD-set-other, set-out}
-use Rattle.graph.specs.Fold.{sum, each, bit}
+use Rattle.graph.specs.Fold.{sum, bit}
 use Rattle.graph.specs.Network.{kept}
 use Rattle.graph.specs.Cut.{sideOf}
 use Rattle.graph.specs.Connection.{reached, connected, reachedCount, critical, criticalCount}

@@ -1,23 +1,19 @@
 -- The audit service by its steps: a network and a list that are read from their texts.
 use mathlib.Core.Path.{_≡_, refl, sym, _∙_, ap}
-use mathlib.Core.Bool.{Bool, true, false, cond, _&&_}
-use mathlib.Core.List.{List, [], _∷_}
-use Prim.Native.Nat.{ℕ, zero, suc, _*_, _≤_, _<_}
+use mathlib.Core.Bool.{Bool, false}
+use mathlib.Core.List.{List}
+use Prim.Native.Nat.{ℕ, _*_, _≤_, _<_}
 use native.Mathlib.Omega.{arith}
-use lib.Dec.{leb, ltb}
 use lib.ListN.{length, take, drop, getD, replicate, length-take}
 use lib.Seq.{take-append-seam, getD-take}
 use Rattle.frame.specs.Answer.{Answer, refused, answer, andThen, over, replied, replyOf, after}
-use Rattle.frame.specs.Frames.{Frames, done, broken, frame, framesToEnd}
-use Rattle.frame.specs.Kinds.{keptOf}
+use Rattle.frame.specs.Frames.{framesToEnd}
 use Rattle.frame.specs.Table.{KEPT}
 use Rattle.frame.specs.declared.reply.Reply.{Reply}
 use Rattle.frame.specs.declared.reply.Reply.the-variants as reply
 use Rattle.frame.proofs.Answers.{refuses, fits, replied-refused, replied-done}
-use Rattle.texts.specs.Limits.{verticesOk}
-use Rattle.texts.specs.Lists.{risingFrom, meaningOf, readList}
-use Rattle.texts.proofs.ListsTaken.{in-order}
-use Rattle.texts.proofs.ListsOneToOne.{few-edges}
+use Rattle.texts.specs.Lists.{readList}
+use Rattle.texts.proofs.ListsOneToOne.{few-edges, edges-below}
 use Rattle.loading.specs.Loading.{loadNetwork}
 use Rattle.loading.proofs.Reading.{loaded-known}
 use Rattle.graph.specs.State.{edgeLimit, vertexLimit}
@@ -29,37 +25,9 @@ use Rattle.audit.specs.Service.{Markable, listedMarks, auditText, audite
 use Rattle.audit.proofs.Answering.{formed-ends}
 
 -- ── a list's edges are the network's ──
-rising-below : (n least : ℕ) (fs : Frames) (es : List ℕ) → risingFrom n least fs ≡ answer es → (i : ℕ) → i < length es → getD es i 0 < 2 * n
-unfolding risingFrom andThen
-rising-below n least done es e i h = let p : es ≡ [] = cc in absurd (omega (arith, ap length p))
-rising-below n least broken es e i h = let z : _≡_ {A = ℕ} 0 1 = cc in absurd (omega arith)
-rising-below n least (frame f fs) es e i h =
-    let x = keptOf f .edge in
-    go (leb least x && ltb x (2 * n)) refl (risingFrom n (suc x) fs) refl (rising-below n (suc x) fs) e
-  where
-    place : (ds : List ℕ) → ((j : ℕ) → j < length ds → getD ds j 0 < 2 * n) → keptOf f .edge < 2 * n
-        → (j : ℕ) → j < length (keptOf f .edge ∷ ds) → getD (keptOf f .edge ∷ ds) j 0 < 2 * n
-    place ds k b zero l = b
-    place ds k b (suc j) l = k j (omega arith)
-
-    go : let x = keptOf f .edge in (b : Bool) → (leb least x && ltb x (2 * n)) ≡ b
-        → (a : Answer (List ℕ)) → risingFrom n (suc x) fs ≡ a
-        → ((ds : List ℕ) → risingFrom n (suc x) fs ≡ answer ds → (j : ℕ) → j < length ds → getD ds j 0 < 2 * n)
-        → cond b (andThen a (λ ds. answer (x ∷ ds))) (refused 14) ≡ answer es → getD es i 0 < 2 * n
-    go false t a q k e = let z : _≡_ {A = ℕ} 0 1 = cc in absurd (omega arith)
-    go true t (refused j) q k e = let z : _≡_ {A = ℕ} 0 1 = cc in absurd (omega arith)
-    go true t (answer ds) q k e =
-        let p : es ≡ keptOf f .edge ∷ ds = cc in
-        let b = place ds (k ds q) (in-order n least (keptOf f .edge) t .inside) i (omega (arith, ap length p)) in
-        rw p b
-
 list-below : (n : ℕ) (l es : List ℕ) → readList n l ≡ answer es → (i : ℕ) → i < length es → getD es i 0 < 2 * n
-unfolding readList meaningOf
-list-below n l es e = go (verticesOk n) e
-  where
-    go : (b : Bool) → cond b (risingFrom n 0 (framesToEnd KEPT l)) (refused 2) ≡ answer es → (i : ℕ) → i < length es → getD es i 0 < 2 * n
-    go true e = rising-below n 0 (framesToEnd KEPT l) es e
-    go false e = let z : _≡_ {A = ℕ} 0 1 = cc in absurd (omega arith)
+unfolding readList
+list-below n l es e = edges-below n (framesToEnd KEPT l) es e
 
 list-few : (n : ℕ) (l es : List ℕ) → readList n l ≡ answer es → length es ≤ edgeLimit
 unfolding readList

@@ -1,12 +1,12 @@
 -- A service's reply and its buffers afterwards, by the answer that is due.
 -- Assumes nothing.
 use mathlib.Core.Path.{_≡_, refl}
-use mathlib.Core.Bool.{Bool, true, false}
+use mathlib.Core.Bool.{Bool, true, false, cond}
 use mathlib.Core.List.{List}
 use Prim.Native.Nat.{ℕ, _≤_, _<_}
 use native.Mathlib.Omega.{arith}
 use lib.ListN.{length}
-use borrow.Author.Tests.{le-leb, lt-leb}
+use borrow.Author.Tests.{leb-true, le-leb, lt-leb}
 use Rattle.frame.specs.Answer.{Answer, refused, answer, andThen, given, filled, over, roomIn, replied, replyOf, after, SHORT}
 use Rattle.frame.specs.declared.reply.Reply.the-variants.{Refused, Done}
 
@@ -33,6 +33,16 @@ module _ {M : Type 0} (room : M → Bool) (a : Answer M) where
   pub given-short : (m : M) → a ≡ answer m → room m ≡ false → given room a ≡ refused SHORT
   unfolding given
   given-short m e h = rw (e, h)
+
+-- what was answered with given buffers had room in them
+pub given-room : {M : Type 0} (room : M → Bool) (a : Answer M) (m : M) → given room a ≡ answer m → room m ≡ true
+unfolding given
+given-room room (refused k) m e = let z : _≡_ {A = ℕ} 0 1 = cc in absurd (omega arith)
+given-room room (answer n) m e = go (room n) refl e
+  where
+    go : (b : Bool) → room n ≡ b → cond b (answer n) (refused SHORT) ≡ answer m → room m ≡ true
+    go true h e = let p : n ≡ m = cc in rw p at h
+    go false h e = let z : _≡_ {A = ℕ} 0 1 = cc in absurd (omega arith)
 
 module _ {M A : Type 0} (part : M → List A) (a : Answer M) (old : List A) where
   pub filled-refused : (k : ℕ) → a ≡ refused k → filled part a old ≡ old
@@ -74,3 +84,10 @@ module _ {A : Type 0} (a : Answer (List A)) where
       go : (b : Answer (List A)) → a ≡ b → Done n ≡ replied b → (xs : List A) × (a ≡ answer xs) × (n ≡ length xs)
       go (refused j) p q = let z : _≡_ {A = ℕ} 0 1 = cc in absurd (omega arith)
       go (answer xs) p q = (xs, p, cc)
+
+-- what was written fits its buffer
+pub done-fits : {A : Type 0} (a : Answer (List A)) (old : List A) (n : ℕ) → Done n ≡ replyOf a old → n ≤ length old
+unfolding replyOf roomIn
+done-fits a old n h =
+    let w = replied-done (given (roomIn old) a) n h in
+    omega (arith, w .2, leb-true (length (w .0)) (length old) (given-room (roomIn old) a (w .0) (w .1)))

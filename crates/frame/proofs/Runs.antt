@@ -9,7 +9,7 @@ use native.Mathlib.Numerals.{add-one}
 use native.Mathlib.Nat.{zero-div, add-div-left}
 use lib.ListN.{length, drop, getD, replicate, length-drop, drop-of-length-le}
 use lib.Seq.{drop-cons, drop-drop}
-use Rattle.frame.specs.Table.{rows, lineLength}
+use Rattle.frame.specs.Table.{lineLength}
 use Rattle.frame.specs.Line.{lineOf, fieldsOf, isLine, lineAt, readLine, Fits}
 use Rattle.frame.specs.Frames.{done, broken, frame, framesOf, framesToEnd}
 use Rattle.frame.specs.declared.line.Fields.{Fields}

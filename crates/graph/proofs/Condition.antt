@@ -1,22 +1,22 @@
 -- Condition 3 over meanings, for every accepted network; and the bound of the working costs over a whole chain.
 use mathlib.Core.Path.{_≡_, refl, sym, _∙_, ap}
-use mathlib.Core.Logic.{_↔_, inl}
+use mathlib.Core.Logic.{inl}
 use mathlib.Core.Bool.{Bool, true, false, cond}
 use mathlib.Core.List.{List, [], _∷_}
 use Prim.Native.Nat.{ℕ, zero, suc, _+_, _-_, _*_, _≤_, _<_}
 use native.Mathlib.Omega.{arith}
 use native.Mathlib.Nat.{mul-le-mul-right}
 use lib.Dec.{eqb, ltb}
-use lib.ListN.{length, getD, set, length-set}
+use lib.ListN.{length, length-set}
 use lib.IntN.{natAbs}
 use borrow.Author.Tests.{eqb-true, ltb-true, eq-eqb, lt-ltb}
-use Rattle.graph.specs.Fold.{fold, sum, each, bit}
+use Rattle.graph.specs.Fold.{bit}
 use Rattle.graph.specs.Network.{lowEnd, highEnd, costOf, here, degree, kept}
-use Rattle.graph.specs.Cut.{EveryCut, everyCut, fourEach, networkRefusal}
+use Rattle.graph.specs.Cut.{everyCut, fourEach, networkRefusal}
 use Rattle.graph.specs.Split.{split, third, after}
 use Rattle.graph.specs.Chain.{stepRefusal, endRefusal, endKept, lift, Verdict, refused, keeps, liftVerdict, unless, check, StepByRule, ByRules, ending, step, Leads, stays, goes}
-use Rattle.graph.specs.Plan.{chosenStep, chosenDrop, planSteps, planDrop, planKept}
-use Rattle.graph.specs.Sound.{Formed, Sound, Fresh, weight}
+use Rattle.graph.specs.Plan.{chosenStep, planSteps, planDrop, planKept}
+use Rattle.graph.specs.Sound.{Sound, Fresh, weight}
 use Rattle.graph.specs.Condition.{Good, Passes, Condition}
 use Rattle.graph.specs.declared.Network.{Network}
 use Rattle.graph.specs.declared.Step.{Step}

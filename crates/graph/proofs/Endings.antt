@@ -1,27 +1,27 @@
 -- Two vertices are left: the last three edges, and what the ending keeps.
-use mathlib.Core.Path.{_≡_, refl, sym, _∙_, ap, ap₂}
+use mathlib.Core.Path.{_≡_, refl, sym, _∙_, ap}
 use mathlib.Core.Logic.{_≢_, _⊎_, inl, inr, ⊎-elim}
 use mathlib.Core.Bool.{Bool, true, false, not, cond, _&&_, or-true}
 use mathlib.Core.List.{List, [], _∷_}
-use Prim.Native.Nat.{ℕ, zero, suc, _+_, _*_, _≤_, _<_}
+use Prim.Native.Nat.{ℕ, _+_, _*_, _≤_, _<_}
 use native.Mathlib.Omega.{arith}
 use native.Mathlib.Decide.{ℕ-discrete}
 use lib.Dec.{eqb}
-use lib.ListN.{length, getD}
+use lib.ListN.{length}
 use lib.IntN.{ℤ, pos, _*ℤ_}
 use lib.Signed.{leZ, _≤ℤ_}
-use Rattle.graph.specs.Fold.{sum, sumℤ, bit, pick, only, without, among, tabulate}
-use Rattle.graph.specs.Network.{lowEnd, highEnd, costOf, here, touches, far, endsAt, costOver, kept, keptCost, allButReserved}
-use Rattle.graph.specs.Cut.{Side, differ, crosses, crossingsOf, keptCrossings, Divides, EveryCutOf}
+use Rattle.graph.specs.Fold.{without, among}
+use Rattle.graph.specs.Network.{lowEnd, highEnd, costOf, here, touches, endsAt, costOver, kept, keptCost, allButReserved}
+use Rattle.graph.specs.Cut.{Side, differ, crosses, crossingsOf, Divides, EveryCutOf}
 use Rattle.graph.specs.Split.{isPartner, partners}
 use Rattle.graph.specs.Chain.{lastEdges, dearest, endRefusal, marks, endKept}
-use Rattle.graph.specs.Sound.{Formed, Joins, Sound}
+use Rattle.graph.specs.Sound.{Sound}
 use Rattle.graph.specs.Condition.{Good}
 use Rattle.graph.specs.declared.Network.{Network}
-use Rattle.graph.proofs.Bools.{never, eqb-self, eqb-no, eqb-is, and-left, and-right}
-use Rattle.graph.proofs.Sums.{sum-change-four, sum-zeros, term-le, tabulate-length, tabulate-at, pick-ext, Four}
-use Rattle.graph.proofs.Integers.{P, N, times-P, times-N, halves, le-is, is-≤ℤ, sumℤ-change-four, sumℤ-zeros}
-use Rattle.graph.proofs.Stars.{Runs, forward, backward, runs-crosses, Star}
+use Rattle.graph.proofs.Bools.{never, eqb-self, eqb-no, and-left, and-right}
+use Rattle.graph.proofs.Sums.{sum-change-four, sum-zeros, tabulate-length, tabulate-at, pick-ext}
+use Rattle.graph.proofs.Integers.{P, N, times-P, times-N, le-is, is-≤ℤ, sumℤ-four}
+use Rattle.graph.proofs.Stars.{Runs, runs-crosses, Star}
 use Rattle.graph.proofs.Partners.{another, no-third, touch-ends, touches-at, touches-ends, no-loop, runs-here, three-partners, star, Chosen, chosen, among-without}
 
 -- a dearest of a list is dearer than each of it
@@ -168,39 +168,17 @@ module _ {g : Network} (sound : Sound g) (two : g .remaining ≡ 2) where
     unfolding costOver P N
     kept-is =
         let p : ℕ → ℤ = λ e. cond (kept (endKept g d) e) (costOf g e) (pos 0) in
-        let pr : p (g .reserved) ≡ pos 0 = rw kept-reserved in
-        let pd : p d ≡ pos 0 = rw kept-dropped in
-        let py : p (w .y) ≡ costOf g (w .y) = rw kept-y in
-        let pz : p (w .z) ≡ costOf g (w .z) = rw kept-z in
-        omega (
-          arith,
-          halves pr,
-          halves pd,
-          halves py,
-          halves pz,
-          halves (sumℤ-zeros (g .edges)),
-          sumℤ-change-four (s .four) p (λ e. pos 0) (λ e l nr nx ny nz. rw (kept-other e l ny nz)),
-        )
+        let z = sumℤ-four (s .four) p (λ e l nr nx ny nz. rw (kept-other e l ny nz)) (pos 0) (pos 0) (costOf g (w .y)) (costOf g (w .z)) (rw kept-reserved) (rw kept-dropped) (rw kept-y) (rw kept-z) in
+        omega (arith, z)
 
     all-is : P (allButReserved g) + (N (costOf g d) + N (costOf g (w .y)) + N (costOf g (w .z))) ≡ N (allButReserved g) + (P (costOf g d) + P (costOf g (w .y)) + P (costOf g (w .z)))
     unfolding costOver P N
     all-is =
         let p : ℕ → ℤ = λ e. cond (not (eqb e (g .reserved))) (costOf g e) (pos 0) in
         let q = s .four in
-        let apart : (e : ℕ) → g .reserved ≢ e → eqb e (g .reserved) ≡ false = λ e ne. eqb-no (λ k. ne (sym k)) in
-        let pr : p (g .reserved) ≡ pos 0 = rw (eqb-self (g .reserved)) in
-        let pd : p d ≡ costOf g d = rw (apart d (q .rx)) in
-        let py : p (w .y) ≡ costOf g (w .y) = rw (apart (w .y) (q .ry)) in
-        let pz : p (w .z) ≡ costOf g (w .z) = rw (apart (w .z) (q .rz)) in
-        omega (
-          arith,
-          halves pr,
-          halves pd,
-          halves py,
-          halves pz,
-          halves (sumℤ-zeros (g .edges)),
-          sumℤ-change-four q p (λ e. pos 0) (λ e l nr nx ny nz. rw (eqb-no nr) (costless e l (s .rest e l nr nx ny nz))),
-        )
+        let apart : (e : ℕ) → g .reserved ≢ e → p e ≡ costOf g e = λ e ne. rw (eqb-no (λ (k : e ≡ g .reserved). ne (sym k))) in
+        let z = sumℤ-four q p (λ e l nr nx ny nz. rw (eqb-no nr) (costless e l (s .rest e l nr nx ny nz))) (pos 0) (costOf g d) (costOf g (w .y)) (costOf g (w .z)) (rw (eqb-self (g .reserved))) (apart d (q .rx)) (apart (w .y) (q .ry)) (apart (w .z) (q .rz)) in
+        omega (arith, z)
 
     end-ratio : leZ (costOf g (w .y)) (costOf g d) ≡ true → leZ (costOf g (w .z)) (costOf g d) ≡ true
         → (pos 3 *ℤ keptCost g (endKept g d)) ≤ℤ (pos 2 *ℤ allButReserved g)

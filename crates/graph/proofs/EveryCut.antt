@@ -1,14 +1,14 @@
 -- The computed test over all sides of n vertices says what the statement over every side says.
 use mathlib.Core.Path.{_≡_, refl, sym, _∙_, ap, ap₂}
-use mathlib.Core.Bool.{Bool, true, false, not, cond, _&&_, _||_, Bool·beq}
+use mathlib.Core.Bool.{Bool, true, false, not, cond, _&&_, _||_}
 use mathlib.Core.List.{List, [], _∷_}
-use Prim.Native.Nat.{ℕ, zero, suc, _+_, _≤_, _<_}
+use Prim.Native.Nat.{ℕ, zero, suc, _<_}
 use native.Mathlib.Omega.{arith}
 use lib.Dec.{leb, leb→le}
 use lib.ListN.{length, getD}
 use borrow.Author.Tests.{leb-false}
 use Rattle.graph.specs.Fold.{tabulate}
-use Rattle.graph.specs.Network.{lowEnd, highEnd, here}
+use Rattle.graph.specs.Network.{lowEnd, highEnd}
 use Rattle.graph.specs.Cut.{Side, differ, crosses, crossingsOf, Divides, EveryCutOf, everySide, somewhere, sideOf, crossedBy, everyCutOf}
 use Rattle.graph.specs.Sound.{Formed}
 use Rattle.graph.specs.declared.Network.{Network}

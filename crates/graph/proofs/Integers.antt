@@ -164,6 +164,20 @@ unfolding fold
 sumℤ-zeros zero = refl
 sumℤ-zeros (suc n) = rw (sumℤ-zeros n)
 
+-- a sum whose terms are zero but for four
+pub sumℤ-four : {n r x y z : ℕ} → Four n r x y z → (f : ℕ → ℤ) → ((i : ℕ) → i < n → i ≢ r → i ≢ x → i ≢ y → i ≢ z → f i ≡ pos 0)
+    → (a b c d : ℤ) → f r ≡ a → f x ≡ b → f y ≡ c → f z ≡ d → P (sumℤ n f) + (N a + N b + N c + N d) ≡ N (sumℤ n f) + (P a + P b + P c + P d)
+unfolding P N
+sumℤ-four {n} q f h a b c d at-r at-x at-y at-z = omega (
+  arith,
+  halves at-r,
+  halves at-x,
+  halves at-y,
+  halves at-z,
+  halves (sumℤ-zeros n),
+  sumℤ-change-four q f (λ i. pos 0) h,
+)
+
 -- the size of a sum is at most the sum of the sizes
 pub sumℤ-size : (n : ℕ) (f : ℕ → ℤ) → natAbs (sumℤ n f) ≤ sum n (λ i. natAbs (f i))
 unfolding fold

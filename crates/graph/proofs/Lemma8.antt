@@ -1,17 +1,16 @@
 -- Lemma 8: at least two of the three partners are admissible.
-use mathlib.Core.Path.{_≡_, refl, sym, _∙_, ap, ap₂}
+use mathlib.Core.Path.{_≡_, refl, sym, _∙_, ap}
 use mathlib.Core.Logic.{_≢_}
-use mathlib.Core.Bool.{Bool, true, false, not, cond, _&&_, _||_}
-use mathlib.Core.List.{List, [], _∷_}
-use Prim.Native.Nat.{ℕ, zero, suc, _+_, _≤_, _<_, _%_}
+use mathlib.Core.Bool.{Bool, true, false, not, _&&_, _||_}
+use mathlib.Core.List.{[], _∷_}
+use Prim.Native.Nat.{ℕ, _+_, _≤_, _<_, _%_}
 use native.Mathlib.Omega.{arith}
 use lib.Dec.{leb, leb→le}
-use lib.ListN.{getD}
-use Rattle.graph.specs.Fold.{bit, only, without}
-use Rattle.graph.specs.Network.{lowEnd, highEnd, here, touches, far}
-use Rattle.graph.specs.Cut.{Side, differ, crosses, crossingsOf, crossings, Divides, EveryCut, everyCutOf, everyCut}
+use Rattle.graph.specs.Fold.{bit, without}
+use Rattle.graph.specs.Network.{lowEnd, highEnd, here, touches}
+use Rattle.graph.specs.Cut.{Side, differ, crosses, crossingsOf, crossings, Divides, everyCut}
 use Rattle.graph.specs.Split.{partners, split, splitWith, admissible}
-use Rattle.graph.specs.Sound.{Formed, Sound}
+use Rattle.graph.specs.Sound.{Sound}
 use Rattle.graph.specs.declared.Network.{Network}
 use Rattle.graph.proofs.Bools.{eqb-no, table-at}
 use Rattle.graph.proofs.Sums.{sum-ext, sum-le, sum-add}

@@ -1,13 +1,13 @@
 -- Lemma 9: which sides decide whether a split is admissible, and splits that make a loop.
-use mathlib.Core.Path.{_≡_, refl, sym, _∙_, ap}
+use mathlib.Core.Path.{_≡_}
 use mathlib.Core.Logic.{_≢_}
-use mathlib.Core.Bool.{Bool, true, false}
-use Prim.Native.Nat.{ℕ, _+_, _-_, _≤_, _<_}
+use mathlib.Core.Bool.{true, false}
+use Prim.Native.Nat.{ℕ, _-_, _≤_, _<_}
 use native.Mathlib.Omega.{arith}
 use Rattle.graph.specs.Network.{lowEnd, highEnd, here}
-use Rattle.graph.specs.Cut.{Side, differ, crossings, EveryCut, everyCutOf, everyCut}
+use Rattle.graph.specs.Cut.{Side, differ, crossings, EveryCut, everyCut}
 use Rattle.graph.specs.Split.{split}
-use Rattle.graph.specs.Sound.{Formed, Sound}
+use Rattle.graph.specs.Sound.{Sound}
 use Rattle.graph.specs.declared.Network.{Network}
 use Rattle.graph.proofs.Bools.{unless-false}
 use Rattle.graph.proofs.EveryCut.{every-cut-sound}

@@ -6,11 +6,10 @@ use mathlib.Core.List.{List}
 use Prim.Native.Nat.{ℕ, _+_, _*_, _≤_, _<_}
 use native.Mathlib.Omega.{arith}
 use lib.Dec.{eqb}
-use lib.ListN.{length, getD, set, length-set}
+use lib.ListN.{length, length-set}
 use lib.Seq.{getD-set-same, getD-set-other, lt-length-set}
 use lib.IntN.{ℤ, pos, natAbs, _+ℤ_, _-ℤ_, _*ℤ_}
 use lib.Signed.{_≤ℤ_}
-use Rattle.graph.specs.Fold.{sum, sumℤ}
 use Rattle.graph.specs.Network.{costOf, here, costOver, kept, keptCost, allButReserved}
 use Rattle.graph.specs.Cut.{Side, differ, crosses, crossingsOf, keptCrossings, Divides, EveryCutOf}
 use Rattle.graph.specs.Split.{split}
@@ -18,7 +17,7 @@ use Rattle.graph.specs.Chain.{lift}
 use Rattle.graph.specs.Sound.{Formed, Sound, weight}
 use Rattle.graph.specs.declared.Network.{Network}
 use Rattle.graph.proofs.Bools.{never, eqb-self, eqb-no}
-use Rattle.graph.proofs.Sums.{sum-change-four, Four}
+use Rattle.graph.proofs.Sums.{sum-change-four}
 use Rattle.graph.proofs.Integers.{P, N, plus, minus, times-P, times-N, halves, eqℤ, ≤ℤ-is, is-≤ℤ, size-minus, sumℤ-change-four}
 use Rattle.graph.proofs.Stars.{differ-same, Runs, runs-crosses, Star, cost-z, cost-x, cost-y, cost-other, cost-reserved, split-z, split-x, split-y, split-crosses}
 use Rattle.graph.proofs.Splitting.{still-here, far-here}

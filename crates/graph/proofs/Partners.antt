@@ -3,20 +3,20 @@ use mathlib.Core.Path.{_≡_, refl, sym, _∙_, ap}
 use mathlib.Core.Logic.{_≢_, _⊎_, inl, inr, ⊎-elim}
 use mathlib.Core.Bool.{Bool, true, false, not, cond, _&&_, _||_, and-true, or-true, or-false}
 use mathlib.Core.List.{List, [], _∷_}
-use Prim.Native.Nat.{ℕ, zero, suc, _+_, _*_, _≤_, _<_}
+use Prim.Native.Nat.{ℕ, suc, _+_, _*_, _≤_, _<_}
 use native.Mathlib.Omega.{arith}
 use native.Mathlib.Nat.{zero-add}
 use native.Mathlib.Decide.{ℕ-discrete, decLt}
 use lib.Dec.{eqb}
-use lib.ListN.{length, getD}
-use Rattle.graph.specs.Fold.{fold, sum, bit, pick, only, without, among}
+use lib.ListN.{length}
+use Rattle.graph.specs.Fold.{fold, sum, bit, only, without, among}
 use Rattle.graph.specs.Network.{lowEnd, highEnd, here, endsAt, degree, touches, far}
 use Rattle.graph.specs.Cut.{Side, differ, crosses, crossingsOf}
 use Rattle.graph.specs.Split.{isPartner, partners}
 use Rattle.graph.specs.Sound.{Formed, Sound}
 use Rattle.graph.specs.declared.Network.{Network}
 use Rattle.graph.proofs.Bools.{never, eqb-self, eqb-no, eqb-is, and-left, and-right, bit-true}
-use Rattle.graph.proofs.Sums.{sum-ext, sum-add, sum-change, sum-zero-at, sum-positive, sum-out, term-le, out, out-same, out-other, pick-length, Picked, pick-cons, pick-nil, Four}
+use Rattle.graph.proofs.Sums.{sum-ext, sum-add, sum-change, sum-zero-at, sum-positive, sum-out, term-le, out, out-same, out-other, pick-length, Picked, pick-cons, pick-nil}
 use Rattle.graph.proofs.Stars.{Runs, forward, backward, Star, swap-others, swap-first}
 
 -- ── present vertices ──

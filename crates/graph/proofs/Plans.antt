@@ -3,24 +3,22 @@ use mathlib.Core.Path.{_≡_, refl, sym, _∙_, ap}
 use mathlib.Core.Logic.{_≢_}
 use mathlib.Core.Bool.{Bool, true, false, cond, or-true}
 use mathlib.Core.List.{List, [], _∷_}
-use Prim.Native.Nat.{ℕ, zero, suc, _+_, _≤_, _<_, max}
+use Prim.Native.Nat.{ℕ, _+_, _≤_, max}
 use native.Mathlib.Omega.{arith}
 use native.Mathlib.Decide.{decLe}
-use lib.Dec.{eqb}
 use lib.ListN.{length, getD}
 use lib.IntN.{ℤ}
 use lib.Signed.{leZ, ltZ, _≤ℤ_}
 use Rattle.graph.specs.Fold.{bit, only, among}
-use Rattle.graph.specs.Network.{lowEnd, highEnd, costOf, here, touches}
+use Rattle.graph.specs.Network.{lowEnd, highEnd, costOf, touches}
 use Rattle.graph.specs.Cut.{EveryCut}
 use Rattle.graph.specs.Split.{partners, splitWith, admissible}
 use Rattle.graph.specs.Chain.{lastEdges, dearest, endRefusal, StepByRule}
 use Rattle.graph.specs.Plan.{chosenVertex, ordered, chosenStep, dearestOf, chosenDrop}
 use Rattle.graph.specs.Sound.{Sound}
 use Rattle.graph.specs.declared.Network.{Network}
-use Rattle.graph.specs.declared.Step.{Step}
 use Rattle.graph.proofs.Bools.{eqb-self}
-use Rattle.graph.proofs.Integers.{P, N, le-test, le-is, le-isnt, lt-is, lt-isnt, is-≤ℤ}
+use Rattle.graph.proofs.Integers.{le-test, le-is, le-isnt, lt-is, lt-isnt, is-≤ℤ}
 use Rattle.graph.proofs.Partners.{another, touches-ends, three-partners, star}
 use Rattle.graph.proofs.Lemma8.{lemma8}
 use Rattle.graph.proofs.Endings.{v-here, o-here, o≢v, held-v, last-is}

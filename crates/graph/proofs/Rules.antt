@@ -1,18 +1,16 @@
 -- The check of a step and of an ending says what the rules say.
 use mathlib.Core.Path.{_≡_, refl, sym, _∙_, ap}
-use mathlib.Core.Logic.{_≢_}
 use mathlib.Core.Bool.{Bool, true, false, not, cond, _&&_, or-false, or-true}
 use mathlib.Core.List.{List, [], _∷_}
-use Prim.Native.Nat.{ℕ, zero, suc, _+_, _≤_, _<_}
+use Prim.Native.Nat.{ℕ, suc, _≤_}
 use native.Mathlib.Omega.{arith}
 use native.Mathlib.Decide.{ℕ-discrete}
 use lib.Dec.{eqb}
-use lib.ListN.{getD}
 use lib.IntN.{ℤ}
-use lib.Signed.{leZ, ltZ, _≤ℤ_}
-use Rattle.graph.specs.Fold.{pick, only, without, among}
-use Rattle.graph.specs.Network.{lowEnd, highEnd, costOf, here, touches, far}
-use Rattle.graph.specs.Cut.{Side, differ, crossings, EveryCut, everyCutOf, everyCut}
+use lib.Signed.{leZ, _≤ℤ_}
+use Rattle.graph.specs.Fold.{only, among}
+use Rattle.graph.specs.Network.{lowEnd, costOf, here, touches, far}
+use Rattle.graph.specs.Cut.{EveryCut}
 use Rattle.graph.specs.Split.{isPartner, partners, split, splitWith, admissible, third, after}
 use Rattle.graph.specs.Chain.{stepRefusal, lastEdges, dearest, endRefusal, Partner, StepByRule, LastEdge, EndingByRule}
 use Rattle.graph.specs.Sound.{Formed, Sound}
@@ -24,7 +22,7 @@ use Rattle.graph.proofs.EveryCut.{every-cut-sound, every-cut-complete}
 use Rattle.graph.proofs.Stars.{differ-comm, Runs, forward, backward, Star, swap-others, crossings-split}
 use Rattle.graph.proofs.Partners.{another, touches-at, touches-ends, touches-runs, runs-here, three-partners, star, Chosen, chosen, among-without}
 use Rattle.graph.proofs.Splitting.{formed-after, sound-after}
-use Rattle.graph.proofs.Integers.{≤ℤ-is, is-≤ℤ, le-test, lt-isnt, not-lt}
+use Rattle.graph.proofs.Integers.{≤ℤ-is, is-≤ℤ, lt-isnt, not-lt}
 use Rattle.graph.proofs.Endings.{dearest-at}
 
 -- ── partners ──

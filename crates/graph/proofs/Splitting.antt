@@ -1,8 +1,8 @@
 -- Splitting off a vertex: who is present afterwards, degrees, and that a split with an admissible partner leaves a sound network.
-use mathlib.Core.Path.{_≡_, refl, sym, _∙_, ap, ap₂}
+use mathlib.Core.Path.{_≡_, sym, _∙_, ap, ap₂}
 use mathlib.Core.Logic.{_≢_, _⊎_, inl, inr, ⊎-elim}
 use mathlib.Core.Bool.{Bool, true, false, cond}
-use Prim.Native.Nat.{ℕ, zero, suc, _+_, _-_, _≤_, _<_}
+use Prim.Native.Nat.{ℕ, _+_, _-_, _<_}
 use native.Mathlib.Omega.{arith}
 use native.Mathlib.Decide.{ℕ-discrete}
 use lib.Dec.{eqb}
@@ -12,13 +12,12 @@ use Rattle.graph.specs.Fold.{sum, bit}
 use lib.IntN.{pos}
 use Rattle.graph.specs.Network.{lowEnd, highEnd, costOf, here, endsAt, degree}
 use Rattle.graph.specs.Cut.{Side, differ, crosses, crossingsOf, EveryCut}
-use Rattle.graph.specs.Split.{splitEnds, splitCosts, split}
+use Rattle.graph.specs.Split.{split}
 use Rattle.graph.specs.Sound.{Formed, Joins, Sound}
 use Rattle.graph.specs.declared.Network.{Network}
 use Rattle.graph.proofs.Bools.{never, eqb-self, eqb-no}
-use Rattle.graph.proofs.Sums.{sum-ext, sum-change, sum-change-four, Four}
-use Rattle.graph.proofs.EveryCut.{every-cut-sound}
-use Rattle.graph.proofs.Stars.{differ-same, Runs, forward, backward, runs-crosses, Star, split-reserved, split-z, split-x, split-y, split-low, split-high, cost-x, cost-y, cost-other}
+use Rattle.graph.proofs.Sums.{sum-ext, sum-change, sum-change-four}
+use Rattle.graph.proofs.Stars.{differ-same, Runs, forward, backward, Star, split-reserved, split-z, split-x, split-y, split-low, split-high, cost-x, cost-y, cost-other}
 use Rattle.graph.proofs.Partners.{runs-here}
 
 -- ── who is present ──

@@ -1,21 +1,20 @@
 -- The four edges at a vertex, and what splitting it off does to the columns and to a crossing count.
-use mathlib.Core.Path.{_≡_, refl, sym, _∙_, ap, ap₂}
+use mathlib.Core.Path.{_≡_, refl, sym, _∙_, ap₂}
 use mathlib.Core.Logic.{_≢_}
 use mathlib.Core.Bool.{Bool, true, false, cond}
-use mathlib.Core.List.{List, [], _∷_}
-use Prim.Native.Nat.{ℕ, zero, suc, _+_, _≤_, _<_}
+use mathlib.Core.List.{List}
+use Prim.Native.Nat.{ℕ, _+_, _≤_, _<_}
 use native.Mathlib.Omega.{arith}
 use lib.Dec.{eqb}
-use lib.ListN.{length, getD, set, length-set}
-use lib.IntN.{ℤ, pos, _-ℤ_}
+use lib.ListN.{length, getD}
+use lib.IntN.{pos, _-ℤ_}
 use lib.Seq.{lt-length-set, getD-set-same, getD-set-other}
-use Rattle.graph.specs.Fold.{bit}
-use Rattle.graph.specs.Network.{lowEnd, highEnd, costOf, here, endsAt, far}
+use Rattle.graph.specs.Network.{lowEnd, highEnd, costOf, endsAt, far}
 use Rattle.graph.specs.Cut.{Side, differ, crosses, crossingsOf, crossings}
-use Rattle.graph.specs.Split.{splitEnds, splitCosts, split}
+use Rattle.graph.specs.Split.{splitEnds, split}
 use Rattle.graph.specs.Sound.{Formed}
 use Rattle.graph.specs.declared.Network.{Network}
-use Rattle.graph.proofs.Bools.{eqb-self, eqb-no, eqb-is}
+use Rattle.graph.proofs.Bools.{eqb-self, eqb-no}
 use Rattle.graph.proofs.Sums.{sum-change-four, Four}
 
 pub differ-comm : (a b : Bool) → differ a b ≡ differ b a

@@ -9,7 +9,7 @@ use lib.IntN.{pos, _*ℤ_}
 use lib.Signed.{_≤ℤ_}
 use Rattle.graph.specs.Network.{kept, keptCost, allButReserved}
 use Rattle.graph.specs.Cut.{EveryCutOf}
-use Rattle.graph.specs.Chain.{Verdict, keeps, check, ByRules}
+use Rattle.graph.specs.Chain.{keeps, check, ByRules}
 use Rattle.graph.specs.declared.Network.{Network}
 use Rattle.graph.specs.declared.Step.{Step}
 

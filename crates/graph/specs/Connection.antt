@@ -1,9 +1,9 @@
 -- Connection by a set of edges (document 01: joined), and the edges of a list that are critical.
-use mathlib.Core.Bool.{Bool, true, false, not, _&&_, _||_}
+use mathlib.Core.Bool.{Bool, false, not, _&&_, _||_}
 use mathlib.Core.List.{List}
 use Prim.Native.Nat.{ℕ, zero, suc}
 use lib.Dec.{eqb}
-use lib.ListN.{getD, set}
+use lib.ListN.{set}
 use Rattle.graph.specs.Fold.{sum, each, any, bit, tabulate}
 use Rattle.graph.specs.Network.{lowEnd, highEnd, kept}
 use Rattle.graph.specs.Cut.{Side, sideOf}

@@ -8,3 +8,4 @@ pub mod Connection
 pub mod Sound
 pub mod Condition
 pub mod State
+pub mod Districts

@@ -1,5 +1,5 @@
 -- A network (document 01: cabinets and cables): ends, costs, degrees, and the costs of a set of edges.
-use mathlib.Core.Bool.{Bool, true, false, not, cond, _&&_, _||_}
+use mathlib.Core.Bool.{Bool, false, not, cond, _||_}
 use mathlib.Core.List.{List}
 use Prim.Native.Nat.{ℕ, _+_}
 use lib.Dec.{eqb}

@@ -1,7 +1,7 @@
 -- The planner's choices, and the plan.
 use mathlib.Core.Bool.{Bool, cond}
 use mathlib.Core.List.{List, [], _∷_}
-use Prim.Native.Nat.{ℕ, zero, suc, _-_, max}
+use Prim.Native.Nat.{ℕ, zero, suc, max}
 use lib.ListN.{getD}
 use lib.Signed.{leZ, ltZ}
 use Rattle.graph.specs.Fold.{only}

@@ -1,12 +1,12 @@
 -- Partners, splitting off a vertex, and admissible partners.
-use mathlib.Core.Bool.{Bool, true, false, not, _&&_}
+use mathlib.Core.Bool.{Bool, false, not, _&&_}
 use mathlib.Core.List.{List}
 use Prim.Native.Nat.{ℕ, _-_}
 use lib.Dec.{eqb}
 use lib.ListN.{getD, set}
 use lib.IntN.{ℤ, pos, _-ℤ_}
 use Rattle.graph.specs.Fold.{pick, without}
-use Rattle.graph.specs.Network.{lowEnd, highEnd, costOf, touches, far}
+use Rattle.graph.specs.Network.{touches, far}
 use Rattle.graph.specs.Cut.{everyCut}
 use Rattle.graph.specs.declared.Network.{Network}
 use Rattle.graph.specs.declared.Step.{Step}

@@ -1,13 +1,13 @@
 -- A network that was read: its ends are vertices, every vertex is present, and its costs are small.
-use mathlib.Core.Path.{_≡_, refl, sym, _∙_, ap}
+use mathlib.Core.Path.{_≡_, sym, _∙_, ap}
 use mathlib.Core.Bool.{Bool, true, false}
-use mathlib.Core.List.{List, _++_}
-use Prim.Native.Nat.{ℕ, _+_, _-_, _*_, _^_, _≤_, _<_}
+use mathlib.Core.List.{List}
+use Prim.Native.Nat.{ℕ, _+_, _-_, _*_, _≤_, _<_}
 use native.Mathlib.Omega.{arith}
 use native.Mathlib.Decide.{decLt}
 use native.Mathlib.Nat.{mul-le-mul-right}
-use lib.Dec.{ltb, lit<}
-use lib.ListN.{length, getD, drop, replicate, length-append, length-drop, length-replicate, getD-replicate, List·getD-append, List·getD-eq-default}
+use lib.Dec.{ltb}
+use lib.ListN.{length, getD, drop, replicate, length-replicate, getD-replicate, List·getD-append, List·getD-eq-default}
 use lib.Seq.{getD-append-add, getD-drop}
 use lib.IntN.{ℤ, pos, negsuc, natAbs}
 use lib.Signed.{leZ}
@@ -16,8 +16,8 @@ use Rattle.frame.specs.Answer.{over}
 use Rattle.frame.proofs.Parts.{length-over}
 use Rattle.texts.specs.Limits.{costLimit, costOk}
 use Rattle.texts.specs.Networks.{Meaning, Valid}
-use Rattle.graph.specs.Fold.{fold, sum, bit, tabulate}
-use Rattle.graph.specs.Network.{lowEnd, highEnd, costOf, here}
+use Rattle.graph.specs.Fold.{sum, bit, tabulate}
+use Rattle.graph.specs.Network.{costOf, here}
 use Rattle.graph.specs.Sound.{Formed, Fresh, weight, Light}
 use Rattle.graph.specs.State.{edgeLimit, vertexLimit}
 use Rattle.graph.specs.declared.Network.{Network}

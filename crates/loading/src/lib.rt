@@ -5,11 +5,11 @@ use graph::VERTEX_LIMIT;
 use texts::ReadNetwork;
 use texts::read_columns;
 ghost use mathlib.Core.Path.{_≡_};
-ghost use Prim.Native.Nat.{ℕ, _<_, _≤_};
+ghost use Prim.Native.Nat.{_<_};
 ghost use lib.Dec.{ltb};
-ghost use lib.ListN.{length, getD};
+ghost use lib.ListN.{length};
 ghost use Rattle.graph.specs.Fold.{tabulate};
-ghost use Rattle.graph.specs.State.{edgeLimit, vertexLimit};
+ghost use Rattle.graph.specs.State.{vertexLimit};
 ghost use Rattle.loading.specs.Loading.{loadNetwork, loadedOf, stateOf, Narrow, Stated};
 
 // A refusal's number, or 0 and the network.

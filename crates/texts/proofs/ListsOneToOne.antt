@@ -4,10 +4,10 @@
 use mathlib.Core.Path.{_≡_, refl, sym, _∙_, ap}
 use mathlib.Core.Bool.{Bool, true, false, cond, _&&_}
 use mathlib.Core.List.{List, [], _∷_, map}
-use Prim.Native.Nat.{ℕ, suc, _+_, _*_, _^_, _≤_}
+use Prim.Native.Nat.{ℕ, suc, _+_, _*_, _^_, _≤_, _<_}
 use native.Mathlib.Omega.{arith}
 use lib.Dec.{leb, ltb, lit<}
-use lib.ListN.{length, replicate, length-map}
+use lib.ListN.{length, getD, replicate, length-map}
 use Rattle.frame.specs.Answer.{Answer, refused, answer, andThen}
 use Rattle.frame.specs.Table.{KEPT, widths, bytesOf, padded}
 use Rattle.frame.specs.Line.{Fits}
@@ -19,7 +19,7 @@ use Rattle.frame.proofs.Whole.{end-found, end-whole}
 use Rattle.texts.specs.Limits.{verticesOk, mostVertices}
 use Rattle.texts.specs.Lists.{frameOf, risingFrom, meaningOf, readList, listText, writeList}
 use Rattle.texts.proofs.ListsTaken.{in-order}
-use Rattle.texts.proofs.Words.{AllBelow, Words, below-more}
+use Rattle.texts.proofs.Words.{AllBelow, Words, below-more, below-at}
 use Rattle.texts.proofs.LimitLaws.{vertices-within}
 
 -- the edge of a frame
@@ -73,6 +73,10 @@ meant n fs es e = go (verticesOk n) refl e
 -- a list has at most as many edges as the network
 pub few-edges : (n : ℕ) (fs : Frames) (es : List ℕ) → meaningOf n fs ≡ answer es → length es ≤ 2 * mostVertices
 few-edges n fs es e = let m = meant n fs es e in omega (arith, m .1 .few (omega arith))
+
+-- and each of them is one of the network's
+pub edges-below : (n : ℕ) (fs : Frames) (es : List ℕ) → meaningOf n fs ≡ answer es → (i : ℕ) → i < length es → getD es i 0 < 2 * n
+edges-below n fs es e = below-at (2 * n) es (meant n fs es e .1 .below)
 
 -- frames and the edges that they name
 edges-frames : (es : List ℕ) → map edgeOf (map frameOf es) ≡ es

@@ -7,7 +7,7 @@ use native.Mathlib.Omega.{arith}
 use native.Mathlib.Numerals.{add-one}
 use native.Mathlib.Nat.{lt-of-le-of-lt, mul-le-mul}
 use lib.Dec.{lit<}
-use lib.ListN.{length, take, drop, getD, set, length-append, length-take, length-drop}
+use lib.ListN.{length, take, drop, getD, set, length-append, length-take, length-drop, length-set}
 use lib.Seq.{append-snoc, drop-at, drop-cons, drop-drop, length-take-le, set-at, take-add, take-all, take-at, take-suc, take-suc-set}
 use borrow.Rule.Slice.PartMut.{putMid}
 use Rattle.frame.specs.Answer.{over}
@@ -33,10 +33,35 @@ module _ {A : Type 0} where
       rw (n, ← e, drop-cons old i a) (set-at xs (getD old i a) (drop (suc i) old) a i (sym e) ∙ sym (append-snoc xs a (drop (suc i) old)))
 
   -- one element more of a column that is copied
-  pub over-copy : (from old : List A) (d : A) (i : ℕ) → i < length from → i < length old
+  over-copy : (from old : List A) (d : A) (i : ℕ) → i < length from → i < length old
       → set (over (take i from) old) i (getD from i d) ≡ over (take (i + 1) from) old
   over-copy from old d i h l =
       rw (take-next from i d) (over-set (take i from) old i (getD from i d) (sym (length-take-le i from (omega arith))) l)
+
+  -- i elements of those that are due are copied
+  pub record Copying (from to₀ to : List A) (count i : ℕ) : Type 0 where
+    pub within : i ≤ count
+    pub size : length to ≡ length to₀
+    pub copied : to ≡ over (take i from) to₀
+
+  pub copying-none : {from to : List A} {count : ℕ} → Copying from to to count 0
+  unfolding over
+  copying-none = record { within = omega arith; size = refl; copied = refl }
+
+  module _ {from to₀ to : List A} {count i : ℕ} (c : Copying from to₀ to count i) where
+    pub copying-next : (d : A) → i < count → count ≤ length from → count ≤ length to₀
+        → Copying from to₀ (set to i (getD from i d)) count (i + 1)
+    copying-next d h k l =
+        record {
+          within = omega arith;
+          size = length-set to i (getD from i d) ∙ c .size;
+          copied =
+              ap (λ (xs : List A). set xs i (getD from i d)) (c .copied)
+              ∙ over-copy from to₀ d i (omega arith) (omega arith);
+        }
+
+    pub copying-all : count ≤ i → to ≡ over (take count from) to₀
+    copying-all h = let e : i ≡ count = omega (arith, c .within) in rw e at (c .copied)
 
 -- a text of which the part before a place is written, and the rest is left to write
 pub record Written (whole rest old out : List ℕ) (at : ℕ) : Type 0 where

@@ -1,4 +1,6 @@
 // Network texts: read into columns, and written from them.
+use super::column::copy;
+use super::column::copy_costs;
 use super::limits::MOST_EDGES;
 use super::limits::cost_ok;
 use super::limits::vertices_ok;
@@ -19,7 +21,7 @@ use frame::put_line;
 use frame::read_line;
 ghost use mathlib.Core.Path.{_≡_};
 ghost use Prim.Native.Nat.{_*_, _<_, _≤_};
-ghost use lib.ListN.{length, take, drop};
+ghost use lib.ListN.{length, drop};
 ghost use Rattle.frame.specs.Answer.{over, replyOf, after};
 ghost use Rattle.texts.specs.Limits.{mostVertices, refusalOf};
 ghost use Rattle.texts.specs.Networks.{headRefusal, edgeRefusal, checked, edgesOf, readNetwork, readInto, inColumns, edgesIn, meant, Valid, networkText, networkLength, edgesText, writeNetwork};
@@ -114,31 +116,6 @@ pub fn read_columns(text: &[u8], low: &mut [u16], high: &mut [u16], cost: &mut [
     ReadNetwork::Read { vertices, reserved }
 }
 
-// Copies the first elements of a column of ends.
-fn copy_ends(from: &[u16], count: usize, to: &mut [u16])
-    requires { ⌜ (count ≤ length (now from)) × (count ≤ length (now to)) ⌝ }
-    ensures { λ r. ⌜ now (to .exit) ≡ over (take count (now (from .entry))) (now (to .entry)) ⌝ }
-{
-    let mut i = 0;
-    while i < count {
-        to[i] = from[i];
-        i += 1;
-    }
-}
-
-// Copies the first elements of a column of costs.
-fn copy_costs(from: &[i64], count: usize, to: &mut [i64])
-    requires { ⌜ (count ≤ length (now from)) × (count ≤ length (now to)) ⌝ }
-    ensures { λ r. ⌜ now (to .exit) ≡ over (take count (now (from .entry))) (now (to .entry)) ⌝ }
-{
-    let mut i = 0;
-    while i < count {
-        let c = from[i];
-        to[i] = c;
-        i += 1;
-    }
-}
-
 // Reads a network text into buffers: the ends and the costs of its edges, by their numbers.
 pub fn read_network(text: &[u8], low: &mut [u16], high: &mut [u16], cost: &mut [i64]) -> ReadNetwork
     ensures { λ r. ⌜ NetworkGiven (readInto (now (text .entry)) (now (low .entry)) (now (high .entry)) (now (cost .entry)))
@@ -159,8 +136,8 @@ pub fn read_network(text: &[u8], low: &mut [u16], high: &mut [u16], cost: &mut [
     if low.len() < edges || high.len() < edges || cost.len() < edges {
         return ReadNetwork::Refused(SHORT);
     }
-    copy_ends(&lows, edges, low);
-    copy_ends(&highs, edges, high);
+    copy(&lows, edges, low);
+    copy(&highs, edges, high);
     copy_costs(&costs, edges, cost);
     read
 }

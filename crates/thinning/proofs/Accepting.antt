@@ -1,15 +1,15 @@
 -- The network check by its steps, and what is known of an accepted network.
-use mathlib.Core.Path.{_≡_, refl, sym, _∙_, ap}
-use mathlib.Core.Bool.{Bool, true, false, cond}
+use mathlib.Core.Path.{_≡_, refl, _∙_}
+use mathlib.Core.Bool.{Bool, true, false}
 use mathlib.Core.List.{List}
-use Prim.Native.Nat.{ℕ, zero, suc, _+_, _-_, _≤_, _<_}
+use Prim.Native.Nat.{ℕ, zero, suc, _-_, _≤_}
 use native.Mathlib.Omega.{arith}
 use lib.ListN.{length}
 use Rattle.frame.specs.Answer.{Answer, refused, answer, andThen}
 use Rattle.texts.specs.Limits.{unless}
 use Rattle.loading.specs.Loading.{loadNetwork, loadedBy}
 use Rattle.loading.proofs.Reading.{Known, loaded-known}
-use Rattle.graph.specs.Cut.{everyCut, everyCutOf, fourEach, networkRefusal}
+use Rattle.graph.specs.Cut.{everyCut, fourEach, networkRefusal}
 use Rattle.graph.specs.Chain.{refused as refusedWith, keeps}
 use Rattle.graph.specs.State.{vertexLimit}
 use Rattle.graph.specs.declared.Network.{Network}
@@ -18,7 +18,7 @@ use Rattle.thinning.specs.declared.network.Acceptance.the-variants.{Acce
 use Rattle.thinning.specs.Running.{Running, Keeping}
 use Rattle.thinning.specs.Verdicts.{checkChain}
 use Rattle.thinning.specs.Services.{acceptNetwork, acceptanceOf, keptOf, keptIn, checkChainText}
-use Rattle.thinning.proofs.ChainTexts.{Meant, bytes-meant}
+use Rattle.thinning.proofs.ChainTexts.{bytes-meant}
 
 -- ── refusals 6 and 7 ──
 module _ (g : Network) where

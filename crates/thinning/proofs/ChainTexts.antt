@@ -1,23 +1,21 @@
 -- The bytes of a chain and its meaning: what passes is the chain text of steps and an ending that pass, and the other way round.
 use mathlib.Core.Path.{_≡_, refl, sym, _∙_, ap}
-use mathlib.Core.Logic.{_↔_}
-use mathlib.Core.Bool.{Bool, true, false, cond}
+use mathlib.Core.Bool.{Bool, true}
 use mathlib.Core.List.{List, [], _∷_, _++_, map, append-nil}
-use Prim.Native.Nat.{ℕ, zero, suc, _+_, _-_, _≤_, _<_}
+use Prim.Native.Nat.{ℕ, zero, suc, _+_, _-_, _^_, _≤_, _<_}
 use native.Mathlib.Omega.{arith}
-use lib.Dec.{leb, ltb, eqb}
+use lib.Dec.{leb, eqb}
 use lib.ListN.{length, drop, drop-of-length-le}
-use borrow.Author.Tests.{leb-true, le-leb, eq-eqb, lt-ltb}
-use Rattle.frame.specs.Table.{STEP, DROPPED, padded, bytesOf, widths, lineLength}
+use borrow.Author.Tests.{leb-true, eq-eqb, lt-ltb}
+use Rattle.frame.specs.Table.{STEP, DROPPED, lineLength}
 use Rattle.frame.specs.Line.{isLine, fieldsOf, lineOf, Fits}
 use Rattle.frame.specs.Kinds.{stepOf, ofStep, droppedOf, ofDropped}
 use Rattle.frame.proofs.Lines.{length-line, line-is, line-rest, fields-found, line-back, line-fits}
 use Rattle.frame.proofs.Named.{step-back, dropped-back}
 use Rattle.texts.specs.Chains.{chainText}
+use Rattle.texts.proofs.ChainsTexts.{step-fits, dropped-fits}
 use Rattle.graph.specs.Split.{split, third, after}
-use Rattle.graph.specs.Chain.{stepRefusal, endRefusal, endKept, lift, Verdict, refused, keeps, liftVerdict, unless, check, StepByRule, EndingByRule, ByRules, ending, step}
-use Rattle.graph.specs.Sound.{Sound}
-use Rattle.graph.specs.State.{edgeLimit, vertexLimit}
+use Rattle.graph.specs.Chain.{stepRefusal, endRefusal, endKept, lift, keeps, liftVerdict, unless, check, StepByRule, EndingByRule, ByRules, ending, step}
 use Rattle.graph.specs.declared.Network.{Network}
 use Rattle.graph.specs.declared.Step.{Step}
 use Rattle.graph.proofs.Rules.{ruled-step}
@@ -89,16 +87,7 @@ bytes-meant (suc n) g t K e h =
 
 -- ── and the text of a chain that passes passes ──
 
--- numbers of a running network fit their fields
-step-fits : (t : Step) → t .v < 65536 → t .x < 65536 → t .y < 65536 → Fits STEP (ofStep (inFrame t))
-unfolding Fits widths bytesOf padded
-step-fits t v x y = (v, (x, (y, (omega arith, (omega arith, tt)))))
-
-dropped-fits : (d : ℕ) → d < 65536 → Fits DROPPED (ofDropped (record { edge = d }))
-unfolding Fits widths bytesOf padded
-dropped-fits d h = (h, (omega arith, (omega arith, (omega arith, (omega arith, tt)))))
-
-ending-passes : (g : Network) (d : ℕ) (K : List Bool) → EndingByRule g d → d < 65536 → check g [] d ≡ keeps K
+ending-passes : (g : Network) (d : ℕ) (K : List Bool) → EndingByRule g d → d < 2 ^ 16 → check g [] d ≡ keeps K
     → checkEnding g (chainText [] d) ≡ keeps K
 unfolding chainText check
 ending-passes g d K r l h =
@@ -124,7 +113,7 @@ unfolding lifted
 step-passes {g} run t rest L more r h =
     let passed = ruled-step g t r in
     let w = step-taken run more t passed in
-    let fits = step-fits t (omega (arith, v-below run more t passed, run .vertex-room)) (omega (arith, w .at .four .x<, run .edge-room)) (omega (arith, w .at .four .y<, run .edge-room)) in
+    let fits = step-fits (inFrame t) (omega (arith, v-below run more t passed, run .vertex-room)) (omega (arith, w .at .four .x<, run .edge-room)) (omega (arith, w .at .four .y<, run .edge-room)) in
     let text = lineOf STEP (ofStep (inFrame t)) ++ rest in
     chain-at-more g text 0 more (line-is STEP (ofStep (inFrame t)) rest) t (line-names t fits rest) (third g t) (lineLength STEP) (after g t) passed refl refl (omega arith)
     ∙ ap (λ l. lifted (t .x) (t .y) (third g t) (checkChain (after g t .remaining - 2) (after g t) l)) (line-rest STEP (ofStep (inFrame t)) rest)

@@ -1,31 +1,25 @@
 -- How the frames of a chain decide its verdict, one after the other.
-use mathlib.Core.Path.{_≡_, refl, sym, _∙_, ap, ap₂}
-use mathlib.Core.Logic.{_≢_}
-use mathlib.Core.Bool.{Bool, true, false, cond}
-use mathlib.Core.List.{List, [], _∷_}
+use mathlib.Core.Path.{_≡_, refl, sym, _∙_, ap}
+use mathlib.Core.Bool.{Bool, true, false}
+use mathlib.Core.List.{List}
 use Prim.Native.Nat.{ℕ, zero, suc, _+_, _-_, _≤_, _<_}
 use native.Mathlib.Omega.{arith}
-use native.Mathlib.Nat.{add-comm}
 use lib.ListN.{length, getD, drop, length-set}
 use lib.Seq.{drop-drop}
 use borrow.Author.Tests.{le-leb, lt-leb}
 use Rattle.frame.specs.Table.{STEP, DROPPED, lineLength}
 use Rattle.frame.specs.Line.{isLine}
-use Rattle.graph.specs.Fold.{among, tabulate}
-use Rattle.graph.specs.Network.{here}
-use Rattle.graph.specs.Split.{partners, split, third, after}
-use Rattle.graph.specs.Chain.{stepRefusal, endRefusal, marks, endKept, lift, Verdict, refused, keeps, liftVerdict, unless, StepByRule}
-use Rattle.graph.specs.Sound.{Sound, Light, weight}
-use Rattle.graph.specs.State.{Splittable, edgeLimit}
+use Rattle.graph.specs.Split.{split, third, after}
+use Rattle.graph.specs.Chain.{stepRefusal, endRefusal, endKept, lift, Verdict, refused, keeps, liftVerdict, unless, StepByRule}
+use Rattle.graph.specs.Sound.{Light}
+use Rattle.graph.specs.State.{Splittable}
 use Rattle.graph.specs.declared.Network.{Network}
 use Rattle.graph.specs.declared.Step.{Step}
 use Rattle.graph.proofs.Lifting.{weight-after}
 use Rattle.graph.proofs.Rules.{step-ruled, Stepped, stepped, sound-step}
-use Rattle.thinning.specs.declared.judge.Judged.{Judged}
 use Rattle.thinning.specs.declared.judge.Judged.the-variants as judged
-use Rattle.thinning.specs.declared.ending.Ended.{Ended}
 use Rattle.thinning.specs.declared.ending.Ended.the-variants as ended
-use Rattle.thinning.specs.Running.{Running, Last}
+use Rattle.thinning.specs.Running.{Running}
 use Rattle.thinning.specs.Judgements.{judgedBy, judgedOf}
 use Rattle.thinning.specs.Endings.{keptWith, endedBy, endedOf}
 use Rattle.thinning.specs.Verdicts.{stepIn, droppedIn, checkEnding, checkChain, verdictBy, lifted}

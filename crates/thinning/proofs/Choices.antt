@@ -1,22 +1,17 @@
 -- The planner's step: which tests decide it.
-use mathlib.Core.Path.{_≡_, refl, sym, _∙_, ap}
-use mathlib.Core.Logic.{_≢_}
+use mathlib.Core.Path.{_≡_, refl, _∙_, ap}
 use mathlib.Core.Bool.{Bool, true, false, cond}
-use mathlib.Core.List.{List, [], _∷_}
 use Prim.Native.Nat.{ℕ, _+_, _≤_}
 use native.Mathlib.Omega.{arith}
-use lib.ListN.{getD}
 use lib.Signed.{ltZ}
-use Rattle.graph.specs.Fold.{bit, only, without}
-use Rattle.graph.specs.Network.{costOf, here, far}
-use Rattle.graph.specs.Split.{partners, admissible, third}
+use Rattle.graph.specs.Fold.{bit, only}
+use Rattle.graph.specs.Network.{costOf}
+use Rattle.graph.specs.Split.{admissible, third}
 use Rattle.graph.specs.Plan.{chosenVertex, chosenStep, ordered}
 use Rattle.graph.specs.declared.Network.{Network}
-use Rattle.graph.specs.declared.Step.{Step}
 use Rattle.graph.proofs.Bools.{bit-true, bit-low}
 use Rattle.graph.proofs.Partners.{another, first-others, second-others, third-others}
 use Rattle.graph.proofs.Lemma8.{lemma8}
-use Rattle.thinning.specs.declared.choice.Move.{Move}
 use Rattle.thinning.specs.Running.{Running}
 use Rattle.thinning.specs.Moves.{withThird, moveOf, orderedMove}
 use Rattle.thinning.proofs.Trios.{Trio, third-first, third-last}

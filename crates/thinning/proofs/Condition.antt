@@ -1,23 +1,21 @@
 -- Condition 3 over texts, for every accepted network, whichever edge is reserved and whatever bytes are proposed.
 use mathlib.Core.Path.{_≡_, refl, sym, _∙_, ap}
-use mathlib.Core.Logic.{_↔_}
 use mathlib.Core.Bool.{Bool, true, false, cond}
-use mathlib.Core.List.{List, [], _∷_, map}
-use Prim.Native.Nat.{ℕ, zero, suc, _+_, _-_, _≤_, _<_}
+use mathlib.Core.List.{List, _∷_}
+use Prim.Native.Nat.{ℕ, zero, suc, _-_, _<_}
 use native.Mathlib.Omega.{arith}
 use Rattle.frame.specs.Answer.{answer, andThen}
-use Rattle.texts.specs.Chains.{chainText}
 use Rattle.texts.specs.Kept.{keptEdges, pick as keptPick}
 use Rattle.graph.specs.Fold.{among, pick}
 use Rattle.graph.specs.Network.{kept}
-use Rattle.graph.specs.Chain.{Verdict, refused, keeps, check}
+use Rattle.graph.specs.Chain.{Verdict, refused, keeps}
 use Rattle.graph.specs.Plan.{planSteps, planDrop, planKept}
 use Rattle.graph.specs.declared.Network.{Network}
 use Rattle.graph.proofs.Sums.{pick-among, among-pick}
 use Rattle.graph.proofs.Condition.{passes-ruled, ruled-passes, passes-good, plan-checked}
 use Rattle.thinning.specs.Running.{Running}
 use Rattle.thinning.specs.Verdicts.{checkChain}
-use Rattle.thinning.specs.Plans.{inFrame, planChain}
+use Rattle.thinning.specs.Plans.{planChain}
 use Rattle.thinning.specs.Services.{acceptNetwork, keptOf, keptIn, textsOf, checkChainText, planText}
 use Rattle.thinning.specs.Condition.{PassesText, RuledText, GoodText, TextCondition}
 use Rattle.thinning.proofs.ChainTexts.{Meant, bytes-meant, meaning-passes}

@@ -1,18 +1,17 @@
 -- How the tests of an ending decide what is kept.
-use mathlib.Core.Path.{_≡_, refl, sym, _∙_, ap, ap₂}
+use mathlib.Core.Path.{_≡_, refl, sym, _∙_, ap}
 use mathlib.Core.Logic.{_≢_}
 use mathlib.Core.Bool.{Bool, true, false, not, cond, _&&_, or-false, or-true}
-use mathlib.Core.List.{List, [], _∷_}
-use Prim.Native.Nat.{ℕ, _≤_, _<_}
+use mathlib.Core.List.{[], _∷_}
+use Prim.Native.Nat.{ℕ, _<_}
 use native.Mathlib.Omega.{arith}
 use native.Mathlib.Decide.{ℕ-discrete}
-use lib.Dec.{eqb}
 use lib.ListN.{length, getD, set, replicate, length-set, length-replicate, getD-replicate}
 use lib.Seq.{ext-getD, getD-set-same, getD-set-other}
 use lib.IntN.{ℤ}
 use lib.Signed.{leZ, ltZ}
-use Rattle.graph.specs.Fold.{only, without, among, tabulate}
-use Rattle.graph.specs.Network.{lowEnd, costOf, touches}
+use Rattle.graph.specs.Fold.{without, among, tabulate}
+use Rattle.graph.specs.Network.{lowEnd, costOf}
 use Rattle.graph.specs.Split.{partners}
 use Rattle.graph.specs.Chain.{lastEdges, dearest, endRefusal, marks, endKept}
 use Rattle.graph.specs.Plan.{dearestOf, chosenDrop}
@@ -27,8 +26,8 @@ use Rattle.graph.proofs.Endings.{dearest-at, held-v, last-is}
 use Rattle.graph.proofs.Rules.{dearest-in, of-last, ending-ruled}
 use Rattle.thinning.specs.declared.ending.Ended.the-variants.{Keeping, Refused}
 use Rattle.thinning.specs.declared.ending.Drop.{Drop}
-use Rattle.thinning.specs.Running.{Running, Last}
-use Rattle.thinning.specs.Endings.{keptWith, endedBy, endedOf, dropping, chosenEnding}
+use Rattle.thinning.specs.Running.{Last}
+use Rattle.thinning.specs.Endings.{keptWith, endedBy, endedOf, chosenEnding}
 use Rattle.thinning.proofs.Trios.{Trio, trio}
 use Rattle.thinning.proofs.Judging.{Named}
 

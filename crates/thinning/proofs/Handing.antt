@@ -1,48 +1,35 @@
 -- Handing the texts of a plan over.
 use mathlib.Core.Path.{_≡_, refl, sym, _∙_, ap, ap₂}
 use mathlib.Core.Bool.{Bool, true, false, _&&_, and-false}
-use mathlib.Core.List.{List, [], _∷_, _++_, map}
+use mathlib.Core.List.{List, _++_, map}
 use Prim.Native.Nat.{ℕ, zero, suc, _+_, _-_, _*_, _≤_, _<_}
 use native.Mathlib.Omega.{arith}
-use native.Mathlib.Nat.{mul-le-mul-right}
-use lib.ListN.{length, take, drop, length-append}
+use lib.ListN.{length, take, drop, length-append, length-map}
 use lib.Seq.{take-at, take-all}
 use borrow.Author.Tests.{le-leb, lt-leb}
-use Rattle.frame.specs.Answer.{Answer, refused, answer, andThen, given, over, filled, roomIn, SHORT}
+use Rattle.frame.specs.Answer.{Answer, refused, answer, andThen, over, filled, roomIn, SHORT}
 use Rattle.frame.specs.Table.{STEP, DROPPED, padded, bytesOf, placeOf, startOf, total, lineLength}
-use Rattle.frame.specs.Line.{lineOf}
-use Rattle.frame.specs.Kinds.{ofStep, ofDropped}
-use Rattle.frame.proofs.Lines.{length-line}
 use Rattle.frame.proofs.Answers.{given-refused, given-short, given-fits, filled-refused, filled-answer}
-use Rattle.texts.specs.Chains.{chainText}
+use Rattle.texts.proofs.ChainsTexts.{length-chain}
 use Rattle.graph.specs.Split.{after}
 use Rattle.graph.specs.Plan.{chosenStep, planSteps, planDrop, planKept}
 use Rattle.graph.specs.State.{vertexLimit}
 use Rattle.graph.specs.declared.Network.{Network}
-use Rattle.graph.specs.declared.Step.{Step}
 use Rattle.graph.proofs.Condition.{plan-checked, passes-good}
 use Rattle.thinning.specs.declared.planner.Planned.the-variants as planned
-use Rattle.thinning.specs.Running.{Running, Keeping}
 use Rattle.thinning.specs.Plans.{inFrame, planChain, chainLength}
 use Rattle.thinning.specs.Services.{Texts, acceptNetwork, keptOf, textsOf, planText, planRoom, textsGiven, planGiven, plannedOf, Planning}
 use Rattle.thinning.proofs.Accepting.{accepted-running, remaining-few, running-keeping}
 
 -- ── lengths ──
-length-chain : (ts : List Step) (d : ℕ) → length (chainText (map inFrame ts) d) ≡ chainLength (length ts)
-unfolding chainText chainLength
-length-chain [] d = length-line DROPPED (ofDropped (record { edge = d })) ∙ omega arith
-length-chain (t ∷ ts) d =
-    length-append (lineOf STEP (ofStep (inFrame t))) (chainText (map inFrame ts) d)
-    ∙ omega (arith, length-line STEP (ofStep (inFrame t)), length-chain ts d)
-
 steps-count : (n : ℕ) (g : Network) → length (planSteps n g) ≡ n
 unfolding planSteps
 steps-count zero g = refl
 steps-count (suc n) g = ap suc (steps-count n (after g (chosenStep g)))
 
 pub chain-size : (n : ℕ) (g : Network) → length (planChain n g) ≡ chainLength n
-unfolding planChain
-chain-size n g = length-chain (planSteps n g) (planDrop n g) ∙ ap chainLength (steps-count n g)
+unfolding planChain chainLength
+chain-size n g = length-chain (map inFrame (planSteps n g)) (planDrop n g) ∙ ap chainLength (length-map (planSteps n g) inFrame ∙ steps-count n g)
 
 -- lines of all steps, and of the ending
 pub lines-small : (n a b : ℕ) → n ≤ vertexLimit → a ≡ lineLength STEP → b ≡ lineLength DROPPED → (n - 2) * a + b ≤ 4096

@@ -1,33 +1,29 @@
 -- How the tests of a proposed step decide what is found of it.
 use mathlib.Core.Path.{_≡_, refl, sym, _∙_, ap}
-use mathlib.Core.Logic.{_≢_}
-use mathlib.Core.Bool.{Bool, true, false, not, cond, _&&_, or-false}
-use mathlib.Core.List.{List, [], _∷_}
-use Prim.Native.Nat.{ℕ, _≤_, _<_}
+use mathlib.Core.Bool.{Bool, true, false, cond, or-false}
+use mathlib.Core.List.{[], _∷_}
+use Prim.Native.Nat.{ℕ}
 use native.Mathlib.Omega.{arith}
 use lib.Dec.{eqb}
 use lib.Signed.{ltZ}
 use borrow.Author.Tests.{eq-eqb, ne-eqb}
 use Rattle.graph.specs.Fold.{among, without}
-use Rattle.graph.specs.Network.{lowEnd, highEnd, costOf, here, touches, far}
-use Rattle.graph.specs.Cut.{everyCut}
-use Rattle.graph.specs.Split.{partners, split, admissible, third}
+use Rattle.graph.specs.Network.{costOf, touches, far}
+use Rattle.graph.specs.Split.{partners, admissible, third}
 use Rattle.graph.specs.Chain.{stepRefusal}
 use Rattle.graph.specs.declared.Network.{Network}
 use Rattle.graph.specs.declared.Step.{Step}
 use Rattle.graph.specs.declared.incidence.Partners.{Partners}
-use Rattle.graph.proofs.Bools.{eqb-self, eqb-no, eqb-is}
+use Rattle.graph.proofs.Bools.{eqb-is}
 use Rattle.graph.proofs.Stars.{Star, swap-first, swap-others}
-use Rattle.graph.proofs.Partners.{Chosen, first-others, second-others, third-others, among-without}
-use Rattle.thinning.specs.declared.judge.Judged.{Judged}
+use Rattle.graph.proofs.Partners.{first-others, second-others, third-others, among-without}
 use Rattle.thinning.specs.declared.judge.Judged.the-variants.{ByRule, Refused}
-use Rattle.thinning.specs.declared.others.Others.{Others}
 use Rattle.thinning.specs.declared.others.Others.the-variants.{Two, None}
 use Rattle.flow.specs.Partnered.{Partnered}
 use Rattle.thinning.specs.Running.{Running}
 use Rattle.thinning.specs.Others.{othersOf}
 use Rattle.thinning.specs.Judgements.{judgedBy, judgedOf}
-use Rattle.thinning.proofs.Trios.{Trio, third-first, third-last}
+use Rattle.thinning.proofs.Trios.{Trio}
 
 -- x is a partner at v, and i and j are the others
 pub record Named (g : Network) (v x i j : ℕ) : Type 0 where

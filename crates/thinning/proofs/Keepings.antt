@@ -1,16 +1,13 @@
 -- Writing the kept text of marked edges.
-use mathlib.Core.Path.{_≡_, refl, sym, _∙_, ap, ap₂}
+use mathlib.Core.Path.{_≡_, sym, _∙_, ap, ap₂}
 use mathlib.Core.Bool.{Bool}
 use mathlib.Core.List.{List}
-use Prim.Native.Nat.{ℕ, _≤_, _<_}
+use Prim.Native.Nat.{ℕ}
 use native.Mathlib.Omega.{arith}
 use lib.ListN.{length}
 use lib.IntN.{ℤ, natAbs}
 use mir.Syntax.{w64}
 use mir.Val.{toZ, ofZ}
-use Rattle.frame.specs.Answer.{answer, over, replyOf, after}
-use Rattle.frame.specs.declared.reply.Reply.the-variants.{Refused, Done}
-use Rattle.frame.proofs.Answers.{fits, short}
 use Rattle.texts.specs.Kept.{keptEdges, keptText, keptLength}
 use Rattle.texts.proofs.KeptTexts.{length-kept}
 use Rattle.graph.specs.Network.{keptCost, allButReserved}

@@ -1,15 +1,13 @@
 -- The three partners at an end of the reserved edge of a running network.
-use mathlib.Core.Path.{_≡_, refl, sym, _∙_, ap}
+use mathlib.Core.Path.{_≡_, sym, _∙_, ap}
 use mathlib.Core.Logic.{_≢_}
 use mathlib.Core.Bool.{true, or-true}
-use mathlib.Core.List.{List, [], _∷_}
-use Prim.Native.Nat.{ℕ, _≤_, _<_}
+use mathlib.Core.List.{[], _∷_}
+use Prim.Native.Nat.{ℕ, _<_}
 use native.Mathlib.Omega.{arith}
-use lib.ListN.{getD}
 use Rattle.graph.specs.Fold.{only, without, among}
 use Rattle.graph.specs.Network.{here, touches, far}
 use Rattle.graph.specs.Split.{partners, third}
-use Rattle.graph.specs.Sound.{Sound}
 use Rattle.graph.specs.State.{Splittable, firstThree}
 use Rattle.graph.specs.declared.Network.{Network}
 use Rattle.graph.specs.declared.Step.{Step}

@@ -1,5 +1,5 @@
 -- Condition 3 over texts: what passes, what it keeps, and that the planner's chain passes.
-use mathlib.Core.Bool.{Bool, true}
+use mathlib.Core.Bool.{Bool}
 use mathlib.Core.List.{List, map}
 use mathlib.Core.Logic.{_↔_}
 use mathlib.Core.Path.{_≡_}

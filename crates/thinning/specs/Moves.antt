@@ -1,5 +1,4 @@
 -- Steps as they are carried out, with the third partner.
-use mathlib.Core.Bool.{cond}
 use Prim.Native.Nat.{ℕ}
 use Rattle.graph.specs.Split.{third}
 use Rattle.graph.specs.Plan.{ordered}

@@ -1,10 +1,9 @@
 -- `loading::present` meets its contract.
-use mathlib.Core.Path.{_≡_, refl, _∙_}
+use mathlib.Core.Path.{refl}
 use mathlib.Core.Bool.{false}
 use Prim.Native.Nat.{_-_}
 use native.Mathlib.Omega.{arith}
 use lib.Dec.{ltb}
-use lib.ListN.{length}
 use Rattle.graph.specs.State.{vertexLimit}
 use Rattle.loading.proofs.Filling.{Filled, filled-none, filled-more, filled-all}
 use Rattle.loading.proofs.present.Statement.{statement}

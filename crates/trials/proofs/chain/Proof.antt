@@ -3,7 +3,7 @@ use mathlib.Core.Path.{sym, _∙_}
 use native.Mathlib.Omega.{arith}
 use lib.Seq.{length-take-le}
 use borrow.Author.Needs.{needs}
-use Rattle.trials.proofs.Done.{done-fits}
+use Rattle.frame.proofs.Answers.{done-fits}
 use Rattle.trials.proofs.chain.Statement.{statement}
 use Rattle.trials.proofs.chain.Tie as tie
 

@@ -1,3 +1,4 @@
+-- `texts::chain::put_chain` meets its contract.
 use mathlib.Core.Path.{refl}
 use Prim.Native.Nat.{_-_, _≤_}
 use native.Mathlib.Omega.{arith}

@@ -1,3 +1,4 @@
+-- `texts::chain::read_chain` meets its contract.
 use native.Mathlib.Omega.{arith}
 use mathlib.Core.Path.{sym, _∙_}
 use Rattle.texts.specs.Chains.{readChain}

@@ -1,3 +1,4 @@
+-- `texts::chain::write_chain` meets its contract.
 use mathlib.Core.Path.{sym, _∙_, ap}
 use Prim.Native.Nat.{_-_}
 use native.Mathlib.Omega.{arith}

@@ -1,22 +1,18 @@
-use mathlib.Core.Path.{_≡_, refl, _∙_, ap}
-use Prim.Native.Nat.{_-_, _≤_}
-use native.Mathlib.Omega.{arith}
-use lib.ListN.{length, take, getD, set, length-set}
+-- `texts::column::copy` meets its contract.
+use Prim.Native.Nat.{_-_}
 use borrow.Author.Needs.{needs}
-use Rattle.frame.specs.Answer.{over}
-use Rattle.texts.proofs.Pieces.{over-copy}
+use Rattle.texts.proofs.Pieces.{Copying, copying-none, copying-next, copying-all}
 use Rattle.texts.proofs.column.copy.Statement.{statement}
 use Rattle.texts.proofs.column.copy.Tie as tie
 
 abbrev Inv-loop : tie.InvT-loop
-Inv-loop from count to₀ i₀ to i = (i ≤ count) × (length to ≡ length to₀) × (to ≡ over (take i from) to₀)
+Inv-loop from count to₀ i₀ to i = Copying from to₀ to count i
 
 abbrev μ-loop : tie.MeasureT-loop
 μ-loop from count to₀ i₀ to i = count - i
 
 loop-holds : tie.Need-loop-holds Inv-loop μ-loop
-unfolding over
-loop-holds c = (search needs, search needs, refl)
+loop-holds c = copying-none
 
 mul-to : tie.Need-mul-to Inv-loop μ-loop
 mul-to c = search needs
@@ -38,21 +34,14 @@ loop-less c = search needs
 
 loop-again : tie.Need-loop-again Inv-loop μ-loop
 loop-again c =
-    let l = c .before .before .loop in
-    let from = c .before .before .before .args .from .now in
-    let old = c .before .before .before .args .to .now in (
-      search needs,
-      simp length-set (l .inv .1),
-      ap (λ to. set to (l .i) (getD from (l .i) 0)) (l .inv .2) ∙ over-copy from old 0 (l .i) (omega arith) (omega arith),
-    )
+    let s = c .before .before .before in
+    copying-next (c .before .before .loop .inv) 0 (c .before .loop-test .taken) (s .pre .0) (s .pre .1)
 
 same-length : tie.Need-same-length Inv-loop μ-loop
 same-length c = search needs
 
 returns : tie.Need-returns Inv-loop μ-loop
-returns c =
-    let e : c .before .loop .i ≡ c .before .before .args .count = omega arith in
-    rw e at (c .before .loop .inv .2)
+returns c = copying-all (c .before .loop .inv) (c .loop-test .left)
 
 pub copy-spec : {M : Type 1} → statement M
 copy-spec =

@@ -1,3 +1,4 @@
+-- `texts::kept::count_kept` meets its contract.
 use mathlib.Core.Path.{_≡_, ap}
 use mathlib.Core.Logic.{⊎-elim}
 use Prim.Native.Nat.{_+_, _-_, _≤_}

@@ -1,3 +1,4 @@
+-- `texts::kept::kept_length` meets its contract.
 use native.Mathlib.Omega.{arith}
 use lib.Dec.{lit<}
 use Rattle.frame.specs.Table.{KEPT, COSTS}

@@ -1,3 +1,4 @@
+-- `texts::kept::put_kept` meets its contract.
 use mathlib.Core.Path.{ap}
 use mathlib.Core.Logic.{⊎-elim}
 use Prim.Native.Nat.{_-_, _≤_}

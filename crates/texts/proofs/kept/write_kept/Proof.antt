@@ -1,3 +1,4 @@
+-- `texts::kept::write_kept` meets its contract.
 use mathlib.Core.Path.{refl}
 use native.Mathlib.Omega.{arith}
 use lib.Dec.{lit<}

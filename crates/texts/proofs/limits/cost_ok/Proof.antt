@@ -1,3 +1,4 @@
+-- `texts::limits::cost_ok` meets its contract.
 use mir.Facts.{toZ-ofZ}
 use borrow.Author.Needs.{needs}
 use Rattle.texts.specs.Limits.{costOk}

@@ -1,3 +1,4 @@
+-- `texts::limits::vertices_ok` meets its contract.
 use borrow.Author.Tests.{le-leb, lt-leb}
 use Rattle.texts.specs.Limits.{verticesOk}
 use Rattle.texts.proofs.limits.vertices_ok.Statement.{statement}

@@ -1,3 +1,4 @@
+-- `texts::list::check_edges` meets its contract.
 use mathlib.Core.Path.{sym, _∙_, ap}
 use mathlib.Core.List.{map}
 use Prim.Native.Nat.{_-_, _≤_, _<_}

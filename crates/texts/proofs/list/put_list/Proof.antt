@@ -1,3 +1,4 @@
+-- `texts::list::put_list` meets its contract.
 use mathlib.Core.Path.{ap}
 use Prim.Native.Nat.{_-_, _≤_}
 use native.Mathlib.Omega.{arith}

@@ -1,3 +1,4 @@
+-- `texts::list::read_list` meets its contract.
 use mathlib.Core.Path.{sym, _∙_, ap}
 use native.Mathlib.Omega.{arith}
 use Rattle.frame.specs.declared.reply.Reply.the-variants.{Done}

@@ -1,3 +1,4 @@
+-- `texts::network::edge_at` meets its contract.
 use native.Mathlib.Omega.{arith}
 use mir.Facts.{toZ-ofZ}
 use borrow.Author.Needs.{needs}

@@ -1,3 +1,4 @@
+-- `texts::network::head_refusal` meets its contract.
 use mathlib.Core.Path.{sym, _∙_}
 use native.Mathlib.Omega.{arith}
 use borrow.Author.Needs.{needs}

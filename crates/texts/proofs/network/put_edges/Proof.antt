@@ -1,3 +1,4 @@
+-- `texts::network::put_edges` meets its contract.
 use mathlib.Core.Path.{_∙_, ap}
 use mathlib.Core.List.{map}
 use Prim.Native.Nat.{_-_}

@@ -1,3 +1,4 @@
+-- `texts::network::put_network` meets its contract.
 use Prim.Native.Nat.{_+_, _*_, _≤_}
 use native.Mathlib.Omega.{arith}
 use lib.Dec.{lit<}

@@ -1,3 +1,4 @@
+-- `texts::network::read_network` meets its contract.
 use native.Mathlib.Omega.{arith}
 use borrow.Author.Needs.{needs}
 use borrow.Author.Tests.{ltb-true, ltb-false}
@@ -61,19 +62,19 @@ returns-2 c =
     no-room _ _ _ (holds (c .before))
     (one-of (λ w. w .taken) (λ w. ltb-true _ _ (w .1 .taken)) (λ w. ltb-true _ _ (w .2 .taken)) (c .if1 .came))
 
-slice-aggregate-copy-ends : tie.Need-slice-aggregate-copy-ends
-slice-aggregate-copy-ends c = search needs
+slice-aggregate-copy : tie.Need-slice-aggregate-copy
+slice-aggregate-copy c = search needs
 
-copy-ends-requires : tie.Need-copy-ends-requires
-copy-ends-requires c κs =
+copy-requires : tie.Need-copy-requires
+copy-requires c κs =
     let e = c .before .before in
     omega (arith, holds (e .before .before .before) .low .long, room e .low-room)
 
-slice-aggregate-copy-ends-2 : tie.Need-slice-aggregate-copy-ends-2
-slice-aggregate-copy-ends-2 c = search needs
+slice-aggregate-copy-2 : tie.Need-slice-aggregate-copy-2
+slice-aggregate-copy-2 c = search needs
 
-copy-ends-requires-2 : tie.Need-copy-ends-requires-2
-copy-ends-requires-2 c κs =
+copy-requires-2 : tie.Need-copy-requires-2
+copy-requires-2 c κs =
     let e = c .before .before .before .before .before .before .before in
     omega (arith, holds (e .before .before .before) .high .long, room e .high-room)
 
@@ -98,8 +99,8 @@ returns-3 : tie.Need-returns-3
 returns-3 c =
     let e = c .before .before .before .before .before .before .before .before .before .before .before .before .before .before in
     rw (
-      c .before .before .before .before .before .before .before .before .before .before .before .copy-ends .ensures,
-      c .before .before .before .before .before .before .copy-ends2 .ensures,
+      c .before .before .before .before .before .before .before .before .before .before .before .copy .ensures,
+      c .before .before .before .before .before .before .copy2 .ensures,
       c .before .copy-costs .ensures,
     )
     (given-all _ _ _ (holds (e .before .before .before)) (room e))
@@ -117,10 +118,10 @@ read-network-spec =
     returns
     mul-edges
     returns-2
-    slice-aggregate-copy-ends
-    copy-ends-requires
-    slice-aggregate-copy-ends-2
-    copy-ends-requires-2
+    slice-aggregate-copy
+    copy-requires
+    slice-aggregate-copy-2
+    copy-requires-2
     slice-aggregate-copy-costs
     copy-costs-requires
     same-length

@@ -1,23 +1,20 @@
 -- `thinning::chain::check_from` meets its contract; the vertices that remain are fewer at each call.
-use mathlib.Core.Path.{_≡_, refl, sym, _∙_, ap, ap₂}
+use mathlib.Core.Path.{_≡_, sym, _∙_, ap}
 use mathlib.Core.List.{List}
-use Prim.Native.Nat.{ℕ, suc, _+_, _-_, _<_, _≤_}
+use Prim.Native.Nat.{ℕ, _+_, _-_, _<_}
 use native.Mathlib.Omega.{arith}
 use lib.ListN.{drop}
 use borrow.Author.Needs.{needs}
 use borrow.Fn.Kinds.{In}
 use borrow.Fn.PlainCycle.{Measures, is, falls, and}
-use Rattle.frame.specs.Table.{STEP, lineLength}
+use Rattle.frame.specs.Table.{STEP}
 use Rattle.frame.specs.Kinds.{stepOf}
 use Rattle.frame.proofs.Runs.{Next, next-read, none-read}
 use Rattle.graph.specs.Split.{third, after}
 use Rattle.graph.specs.Chain.{stepRefusal}
 use Rattle.graph.specs.State.{Splittable}
-use Rattle.graph.specs.declared.Network.{Network}
 use Rattle.graph.specs.declared.Step.{Step}
-use Rattle.thinning.specs.Running.{Running}
-use Rattle.thinning.specs.Judgements.{judgedOf}
-use Rattle.thinning.specs.Verdicts.{stepIn, checkChain, lifted, verdictOf}
+use Rattle.thinning.specs.Verdicts.{stepIn, lifted}
 use Rattle.thinning.proofs.Chains.{judged-rule, judged-refused, chain-end, chain-at-broken, chain-at-refused, chain-at-more, step-splittable, running-after, v-below, fewer}
 use Rattle.thinning.proofs.chain.check_from.Reads as check-from
 use Rattle.thinning.proofs.chain.check_from.Kinds as check-from-kinds

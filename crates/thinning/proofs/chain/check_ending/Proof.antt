@@ -1,11 +1,11 @@
 -- `thinning::chain::check_ending` meets its contract.
-use mathlib.Core.Path.{_≡_, refl, sym, _∙_, ap}
+use mathlib.Core.Path.{_≡_, sym, _∙_, ap}
 use mathlib.Core.List.{List}
-use Prim.Native.Nat.{ℕ, _+_, _<_}
+use Prim.Native.Nat.{ℕ, _<_}
 use native.Mathlib.Omega.{arith}
 use borrow.Author.Needs.{needs}
-use lib.ListN.{length, drop, length-drop}
-use Rattle.frame.specs.Table.{DROPPED, lineLength}
+use lib.ListN.{drop, length-drop}
+use Rattle.frame.specs.Table.{DROPPED}
 use Rattle.frame.specs.Kinds.{droppedOf}
 use Rattle.frame.proofs.Runs.{Next, next-read, none-read}
 use Rattle.graph.specs.Chain.{endRefusal, keeps}

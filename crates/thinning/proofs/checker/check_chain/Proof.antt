@@ -1,5 +1,5 @@
 -- `thinning::checker::check_chain` meets its contract.
-use mathlib.Core.Path.{refl, sym, _∙_, ap}
+use mathlib.Core.Path.{sym, _∙_, ap}
 use borrow.Author.Needs.{needs}
 use Rattle.frame.specs.Answer.{replyOf, after}
 use Rattle.frame.proofs.Answers.{refuses}

@@ -1,10 +1,8 @@
 -- `thinning::choice::chosen_step` meets its contract: Lemma 8 spares the third test.
-use mathlib.Core.Path.{sym, _∙_, ap}
+use mathlib.Core.Path.{sym, _∙_}
 use borrow.Author.Needs.{needs}
 use borrow.Author.Tests.{not-true, not-false}
-use Rattle.graph.specs.Plan.{chosenVertex}
 use Rattle.graph.specs.Split.{partners}
-use Rattle.graph.specs.State.{firstThree}
 use Rattle.graph.proofs.Plans.{chosen-end}
 use Rattle.thinning.proofs.Trios.{Trio, trio, first-tested, second-tested, costed}
 use Rattle.thinning.proofs.Choices.{chosen-later, chosen-first, chosen-outer}

@@ -1,6 +1,5 @@
 -- `thinning::choice::chosen_vertex` meets its contract.
 use native.Mathlib.Omega.{arith}
-use borrow.Author.Needs.{needs}
 use Rattle.graph.specs.Plan.{chosenVertex}
 use Rattle.thinning.proofs.choice.chosen_vertex.Statement.{statement}
 use Rattle.thinning.proofs.choice.chosen_vertex.Tie as tie

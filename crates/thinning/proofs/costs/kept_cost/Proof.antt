@@ -1,11 +1,11 @@
 -- `thinning::costs::kept_cost` meets its contract: the sum so far is the cost of the marked edges passed.
 use mathlib.Core.Logic.{⊎-elim}
-use mathlib.Core.Path.{_≡_, refl, sym, _∙_, ap, ap₂}
+use mathlib.Core.Path.{_≡_, sym, _∙_, ap, ap₂}
 use Prim.Native.Nat.{_+_, _-_, _≤_}
 use lib.IntN.{natAbs, _+ℤ_}
 use native.Mathlib.Omega.{arith}
 use mir.Syntax.{w64}
-use mir.Val.{toZ, ofZ}
+use mir.Val.{toZ}
 use Rattle.graph.proofs.Differences.{cost-below, cost-kept}
 use Rattle.thinning.proofs.Totals.{costAmong, among-none, among-marked, among-unmarked, among-small, among-all, read-back}
 use Rattle.thinning.proofs.costs.kept_cost.Statement.{statement}

@@ -1,6 +1,6 @@
 -- `thinning::judge::judge` meets its contract.
 use mathlib.Core.Logic.{inl, inr}
-use mathlib.Core.Path.{refl, sym, _∙_, ap}
+use mathlib.Core.Path.{refl, _∙_, ap}
 use borrow.Author.Needs.{needs}
 use borrow.Author.Tests.{ne-eqb}
 use Rattle.graph.specs.Network.{touches}

@@ -1,11 +1,12 @@
 -- `thinning::judge::judge_at` meets its contract.
-use mathlib.Core.Path.{_≡_, sym, _∙_, ap}
+use mathlib.Core.Path.{_≡_, sym, _∙_}
 use Prim.Native.Nat.{ℕ}
 use borrow.Author.Needs.{needs}
 use borrow.Author.Tests.{not-true, not-false}
-use Rattle.graph.specs.declared.Network.{Network}
+use Rattle.graph.specs.Split.{third}
 use Rattle.graph.specs.declared.Step.{Step}
-use Rattle.thinning.specs.Running.{Running}
+use Rattle.thinning.specs.declared.judge.Judged.the-variants.{ByRule}
+use Rattle.thinning.specs.Judgements.{judgedOf}
 use Rattle.thinning.proofs.Trios.{Trio, trio, costed, third-first, third-last}
 use Rattle.thinning.proofs.Judging.{Named, partnered, others-found, others-missing, other-is, no-partner-x, no-partner-y, one-partner, not-admissible-x, not-admissible-y, x-cheaper, by-rule}
 use Rattle.thinning.proofs.judge.judge_at.Statement.{statement}
@@ -117,28 +118,35 @@ returns-6 c =
     (sym (d .before .admissible .ensures) ∙ not-false _ (d .if2 .left)) (sym (e .before .admissible2 .ensures) ∙ not-false _ (e .if3 .left))
     (sym (c .before .cheaper .ensures) ∙ c .if4 .taken)
 
-returns-7 : tie.Need-returns-7
-returns-7 c =
-    let e = c .before .before .before in
+-- from the place where x is no cheaper, the one where y is known too
+abbrev y-known : tie.Else4 → tie.After-known-told2
+y-known c = c .before .before .before .before .before .before .before
+
+-- the step is by rule, and z is the partner that it does not name
+ruled : (c : tie.Else4) {z : ℕ} → let a = entry (y-known c) in
+    third (a .args .network) (judged a) ≡ z → ByRule z ≡ judgedOf (a .args .network) (judged a)
+ruled c =
+    let e = c .before .before in
     let d = e .before .before in
-    let k = d .before .before .before in
+    let k = y-known c in
     let a = entry k in
     by-rule (a .args .network) (judged a) (a .pre .1) (named-x (x-known k) .x-in) (named-y k .x-in) (d .before .before .if1 .left)
     (sym (d .before .admissible .ensures) ∙ not-false _ (d .if2 .left)) (sym (e .before .admissible2 .ensures) ∙ not-false _ (e .if3 .left))
-    (sym (c .before .before .cheaper .ensures) ∙ c .before .if4 .left)
-    (third-last (a .args .network) (judged a) (named-x (x-known k) .others) (named-x (x-known k) .at .four .yz) (sym (c .if5 .taken)))
+    (sym (c .before .cheaper .ensures) ∙ c .if4 .left)
+
+returns-7 : tie.Need-returns-7
+returns-7 c =
+    let k = y-known (c .before) in
+    let x = named-x (x-known k) in
+    ruled (c .before) (third-last (entry k .args .network) (judged (entry k)) (x .others) (x .at .four .yz) (sym (c .if5 .taken)))
 
 returns-8 : tie.Need-returns-8
 returns-8 c =
-    let e = c .before .before .before in
-    let d = e .before .before in
-    let k = d .before .before .before in
-    let a = entry k in
-    by-rule (a .args .network) (judged a) (a .pre .1) (named-x (x-known k) .x-in) (named-y k .x-in) (d .before .before .if1 .left)
-    (sym (d .before .admissible .ensures) ∙ not-false _ (d .if2 .left)) (sym (e .before .admissible2 .ensures) ∙ not-false _ (e .if3 .left))
-    (sym (c .before .before .cheaper .ensures) ∙ c .before .if4 .left)
-    (third-first (a .args .network) (judged a) (named-x (x-known k) .others) (named-x (x-known k) .at .four .yz)
-    (other-is (named-x (x-known k)) (named-y k .x-in) (d .before .before .if1 .left) (c .if5 .left)))
+    let k = y-known (c .before) in
+    let x = named-x (x-known k) in
+    ruled (c .before)
+    (third-first (entry k .args .network) (judged (entry k)) (x .others) (x .at .four .yz)
+    (other-is x (named-y k .x-in) (c .before .before .before .before .before .before .before .if1 .left) (c .if5 .left)))
 
 pub judge-at-spec : {M : Type 1} → statement M
 judge-at-spec =

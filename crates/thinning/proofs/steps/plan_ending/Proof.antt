@@ -1,5 +1,5 @@
 -- `thinning::steps::plan_ending` meets its contract.
-use mathlib.Core.Path.{_≡_, sym, _∙_, ap}
+use mathlib.Core.Path.{sym, _∙_, ap}
 use borrow.Author.Needs.{needs}
 use Rattle.frame.specs.Answer.{over}
 use Rattle.frame.specs.Table.{DROPPED}

@@ -1,10 +1,11 @@
+-- `texts::column::copy_costs` meets its contract.
 use Prim.Native.Nat.{_-_}
 use lib.IntN.{pos}
 use mir.Facts.{toZ-ofZ}
 use borrow.Author.Needs.{needs}
-use Rattle.texts.proofs.NetworksColumns.{Copying, copying-none, copying-next, copying-all}
-use Rattle.texts.proofs.network.copy_costs.Statement.{statement}
-use Rattle.texts.proofs.network.copy_costs.Tie as tie
+use Rattle.texts.proofs.Pieces.{Copying, copying-none, copying-next, copying-all}
+use Rattle.texts.proofs.column.copy_costs.Statement.{statement}
+use Rattle.texts.proofs.column.copy_costs.Tie as tie
 
 abbrev Inv-loop : tie.InvT-loop
 Inv-loop from count to₀ i₀ to i = Copying from to₀ to count i
