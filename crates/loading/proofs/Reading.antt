@@ -1,21 +1,23 @@
 -- What reading a network text into columns of zeros leaves.
-use mathlib.Core.Path.{_≡_, refl, sym, _∙_, ap}
+use mathlib.Core.Path.{_≡_, refl, sym, _∙_, ap, subst}
 use mathlib.Core.List.{List}
 use mathlib.Core.Bool.{Bool, true, false, cond}
 use Prim.Native.Nat.{ℕ, zero, suc, _*_, _≤_, _<_}
 use native.Mathlib.Omega.{arith}
-use lib.ListN.{length, drop, replicate}
+use lib.ListN.{length, drop, replicate, length-replicate}
 use lib.IntN.{ℤ, pos}
-use Rattle.frame.specs.Answer.{Answer, refused, answer, andThen, over}
+use Rattle.frame.specs.Answer.{Answer, refused, answer, andThen, given, over, filled, roomIn}
 use Rattle.frame.specs.Table.{HEAD, lineLength}
 use Rattle.frame.specs.Line.{isLine, fieldsOf}
 use Rattle.frame.specs.Kinds.{headOf}
 use Rattle.frame.specs.declared.kinds.Edge.{Edge}
+use borrow.Author.Tests.{le-leb}
+use Rattle.frame.proofs.Answers.{given-refused, given-fits}
 use Rattle.texts.specs.Limits.{unless}
 use Rattle.texts.specs.declared.network.ReadNetwork.{ReadNetwork}
 use Rattle.texts.specs.declared.network.ReadNetwork.the-variants.{Read, Refused}
-use Rattle.texts.specs.Networks.{Meaning, Valid, headRefusal, checked, edgesOf, meaningOf, readNetwork, readReply}
-use Rattle.texts.specs.NetworksColumns.{NetworkRead}
+use Rattle.texts.specs.Networks.{Meaning, Valid, headRefusal, checked, edgesOf, meaningOf, readNetwork, roomFor, readInto, readReply}
+use Rattle.texts.specs.NetworksColumns.{NetworkGiven}
 use Rattle.texts.proofs.NetworksHead.{checked-numbered}
 use Rattle.texts.proofs.NetworksMeaning.{read-valid}
 use Rattle.graph.specs.Sound.{Fresh, Light}
@@ -29,6 +31,25 @@ zeros = replicate edgeLimit 0
 
 abbrev free : List ℤ
 free = replicate edgeLimit (pos 0)
+
+-- columns of zeros have room for every network
+zeros-room : (m : Meaning) → Valid m → roomFor zeros zeros free m ≡ true
+unfolding roomFor roomIn
+zeros-room m v =
+    let z = length-replicate {A = ℕ} edgeLimit 0 in
+    let c = length-replicate {A = ℤ} edgeLimit (pos 0) in
+    rw (
+      le-leb (length (m .low)) (length zeros) (omega (arith, z, v .low-count, v .few)),
+      le-leb (length (m .high)) (length zeros) (omega (arith, z, v .high-count, v .few)),
+      le-leb (length (m .cost)) (length free) (omega (arith, c, v .cost-count, v .few)),
+    )
+
+never-short : (t : List ℕ) → readInto t zeros zeros free ≡ readNetwork t
+never-short t = go (readNetwork t) refl
+  where
+    go : (a : Answer Meaning) → readNetwork t ≡ a → given (roomFor zeros zeros free) a ≡ a
+    go (refused k) q = given-refused (roomFor zeros zeros free) (refused k) k refl
+    go (answer m) q = given-fits (roomFor zeros zeros free) (answer m) m refl (zeros-room m (read-valid t m q))
 
 -- a refusal of a network text has a number
 read-numbered : (t : List ℕ) (k : ℕ) → readNetwork t ≡ refused k → 0 < k
@@ -60,7 +81,10 @@ module _ (m : Meaning) {n k : ℕ} {low high : List ℕ} {cost : List ℤ} (en :
   unfolding networkOf
   columns-network = rw (en, ek, el, eh, ec)
 
-module _ (t low high : List ℕ) (cost : List ℤ) (r : ReadNetwork) (w : NetworkRead (readNetwork t) zeros zeros free low high cost r) where
+module _ (t low high : List ℕ) (cost : List ℤ) (r : ReadNetwork) (w : NetworkGiven (readInto t zeros zeros free) zeros zeros free low high cost r) where
+  read : NetworkGiven (readNetwork t) zeros zeros free low high cost r
+  read = subst (λ a. NetworkGiven a zeros zeros free low high cost r) (never-short t) w
+
   -- the meaning that was read
   pub record Found (n k : ℕ) : Type 0 where
     pub meaning : Meaning
@@ -72,11 +96,11 @@ module _ (t low high : List ℕ) (cost : List ℤ) (r : ReadNetwork) (w : Networ
     pub costs : cost ≡ over (meaning .cost) free
 
   pub found : (n k : ℕ) → r ≡ Read n k → Found n k
-  found n k e = go (readNetwork t) refl w
+  found n k e = go (readNetwork t) refl read
     where
-      go : (a : Answer Meaning) → readNetwork t ≡ a → NetworkRead a zeros zeros free low high cost r → Found n k
+      go : (a : Answer Meaning) → readNetwork t ≡ a → NetworkGiven a zeros zeros free low high cost r → Found n k
       go (refused j) q w = unfold readReply in let z : _≡_ {A = ℕ} 0 1 = cc (w .reply) in absurd (omega arith)
-      go (answer m) q w = unfold readReply in
+      go (answer m) q w = unfold readReply filled in
           let x : Read n k ≡ Read (m .vertices) (m .reserved) = sym e ∙ w .reply in
           record { meaning = m; is = q; vertices-are = cc; reserved-is = cc; lows = w .lows; highs = w .highs; costs = w .costs }
 
@@ -92,9 +116,9 @@ module _ (t low high : List ℕ) (cost : List ℤ) (r : ReadNetwork) (w : Networ
       ap answer (q ∙ columns-network (f .meaning) (f .vertices-are) (f .reserved-is) (f .lows) (f .highs) (f .costs)) ∙ rw (f .is)
 
   pub refused-network : (k : ℕ) → r ≡ Refused k → (g : Network) → loadedBy k g ≡ loadNetwork t
-  refused-network k e g = go (readNetwork t) refl w
+  refused-network k e g = go (readNetwork t) refl read
     where
-      go : (a : Answer Meaning) → readNetwork t ≡ a → NetworkRead a zeros zeros free low high cost r → loadedBy k g ≡ loadNetwork t
+      go : (a : Answer Meaning) → readNetwork t ≡ a → NetworkGiven a zeros zeros free low high cost r → loadedBy k g ≡ loadNetwork t
       go (answer m) q w = unfold readReply in let z : _≡_ {A = ℕ} 0 1 = cc (w .reply) in absurd (omega arith)
       go (refused j) q w = unfold readReply in
           let x : k ≡ j = cc (w .reply) in

@@ -3,7 +3,7 @@ use graph::EDGE_LIMIT;
 use graph::Network;
 use graph::VERTEX_LIMIT;
 use texts::ReadNetwork;
-use texts::read_columns;
+use texts::read_network;
 ghost use mathlib.Core.Path.{_≡_};
 ghost use Prim.Native.Nat.{_<_};
 ghost use lib.Dec.{ltb};
@@ -92,7 +92,7 @@ pub fn load(text: &[u8]) -> Loaded
     let mut low = [0u16; EDGE_LIMIT];
     let mut high = [0u16; EDGE_LIMIT];
     let mut cost = [0i64; EDGE_LIMIT];
-    match read_columns(text, &mut low, &mut high, &mut cost) {
+    match read_network(text, &mut low, &mut high, &mut cost) {
         ReadNetwork::Refused(refusal) => {
             let network = nothing();
             Loaded { refusal, network }

@@ -8,11 +8,7 @@ use lib.Dec.{leb}
 use lib.ListN.{length}
 use borrow.Author.Tests.{leb-true}
 use Rattle.frame.specs.Answer.{Answer, refused, answer, roomIn}
-use Rattle.frame.specs.Table.{REFUSAL, padded, bytesOf, placeOf, startOf, total, lineLength}
-use Rattle.frame.specs.Kinds.{ofRefusal}
 use Rattle.frame.proofs.Answers.{given-room}
-use Rattle.frame.proofs.Lines.{length-line}
-use Rattle.texts.specs.Kept.{refusalText}
 use Rattle.graph.proofs.Bools.{and-left, and-right}
 use Rattle.thinning.specs.declared.planner.Planned.the-variants.{Written}
 use Rattle.thinning.specs.Services.{Texts, planText, planRoom, planGiven, plannedOf}
@@ -32,8 +28,3 @@ module _ (chain kept : List ℕ) (c k : ℕ) where
   pub written-fit : (network : List ℕ) → Written c k ≡ plannedOf (planGiven network chain kept) → (c ≤ length chain) × (k ≤ length kept)
   unfolding planGiven
   written-fit network = answered (planGiven network chain kept) (given-room (planRoom chain kept) (planText network))
-
--- the line of a refusal is short
-pub refusal-short : (k : ℕ) → length (refusalText k) ≤ 16
-unfolding refusalText lineLength startOf placeOf total bytesOf padded
-refusal-short k = omega (arith, length-line REFUSAL (ofRefusal (record { number = k })))

@@ -1,4 +1,5 @@
 // The plan program: reads a network text, and writes its chain text and kept text, or one refusal line.
+use frame::Reply;
 use libc::STDIN_FILENO;
 use libc::STDOUT_FILENO;
 use texts::write_refusal;
@@ -11,11 +12,16 @@ const INPUT_ROOM: usize = 11_788;
 // Room for the longest chain text and for the longest kept text.
 const OUTPUT_ROOM: usize = 4096;
 
+// Room for the line of a refusal.
+const LINE_ROOM: usize = 16;
+
 // Writes the line of a refusal.
 fn refuse(number: u8) {
-    let mut line = [0u8; 16];
-    let n = write_refusal(number, &mut line);
-    io::write_all(STDOUT_FILENO, &line[..n]);
+    let mut line = [0u8; LINE_ROOM];
+    let Reply::Done(length) = write_refusal(number, &mut line) else {
+        return;
+    };
+    io::write_all(STDOUT_FILENO, &line[..length]);
 }
 
 // Plans a network text and writes what is due.

@@ -7,18 +7,19 @@ use Prim.Native.Nat.{ℕ, zero, suc, _+_, _*_, _-_, _≤_, _<_}
 use native.Mathlib.Omega.{arith}
 use native.Mathlib.Numerals.{add-one}
 use native.Mathlib.Nat.{sub-zero}
-use lib.ListN.{length, length-append}
+use lib.ListN.{length, take, length-append}
+use lib.Seq.{length-take-le, getD-take}
 use lib.IntN.{ℤ}
-use borrow.Author.Tests.{le-leb, lt-ltb}
-use Rattle.frame.specs.Answer.{answer, andThen, over}
+use borrow.Author.Tests.{le-leb, lt-leb, lt-ltb}
+use Rattle.frame.specs.Answer.{refused, answer, andThen, over}
 use Rattle.frame.specs.Table.{KEPT, COSTS, REFUSAL, bytesOf, padded, total, placeOf, startOf, lineLength}
 use Rattle.frame.specs.Line.{lineOf}
 use Rattle.frame.specs.Frames.{listed, linesOf}
 use Rattle.frame.specs.Kinds.{ofCosts, ofRefusal}
 use Rattle.frame.proofs.Lines.{length-line}
-use Rattle.texts.specs.Limits.{verticesOk}
+use Rattle.texts.specs.Limits.{mostVertices, verticesOk}
 use Rattle.texts.specs.Lists.{frameOf, risingFrom, meaningOf, listText, writeList}
-use Rattle.texts.specs.Kept.{pick, isKept, keptEdges, keptText, keptLength, refusalText}
+use Rattle.texts.specs.Kept.{pick, isKept, keptEdges, keptText, keptLength, writeKept, refusalText}
 use Rattle.texts.proofs.ListsTexts.{length-list}
 use Rattle.texts.proofs.Pieces.{Written, written-last, written-front}
 
@@ -54,11 +55,39 @@ module _ (p : ℕ → Bool) where
       go true h = omega arith
       go false h = omega arith
 
+-- the same numbers are picked by tests that agree on them
+pick-same : (p q : ℕ → Bool) (n k : ℕ) → ((i : ℕ) → i < k + n → p i ≡ q i) → pick n k p ≡ pick n k q
+unfolding pick
+pick-same p q zero k h = refl
+pick-same p q (suc n) k h = rw (h k (omega arith), pick-same p q n (suc k) (λ i l. h i (omega arith)))
+
 pub length-kept : (es : List ℕ) (kept unreserved : ℤ) → length (keptText es kept unreserved) ≡ keptLength (length es)
 unfolding keptText keptLength
 length-kept es kept unreserved =
     let costs = ofCosts (record { kept = kept; unreserved = unreserved }) in
     length-append (listText es) (lineOf COSTS costs) ∙ omega (arith, length-list es, length-line COSTS costs)
+
+-- a text of that length has room
+pub kept-fits : (es : List ℕ) (kept unreserved : ℤ) (n m : ℕ) → n ≡ keptLength (length es) → n ≤ m → length (keptText es kept unreserved) ≤ m
+kept-fits es kept unreserved n m e h = omega (arith, length-kept es kept unreserved)
+
+-- the writer's answer, by the number of marks
+module _ (marks : List Bool) (kept unreserved : ℤ) where
+  pub marks-refused : 2 * mostVertices < length marks → writeKept marks kept unreserved ≡ refused 1
+  unfolding writeKept
+  marks-refused h = rw (lt-leb (length marks) (2 * mostVertices) h)
+
+  pub marks-written : length marks ≤ 2 * mostVertices → writeKept marks kept unreserved ≡ answer (keptText (keptEdges (length marks) marks) kept unreserved)
+  unfolding writeKept
+  marks-written h = rw (le-leb (length marks) (2 * mostVertices) h)
+
+  -- only the first n of the marks
+  pub first-marks : (n : ℕ) → n ≤ length marks → n ≤ 2 * mostVertices → writeKept (take n marks) kept unreserved ≡ answer (keptText (keptEdges n marks) kept unreserved)
+  unfolding writeKept keptEdges
+  first-marks n h l =
+      let e : length (take n marks) ≡ n = length-take-le n marks h in
+      rw (e, le-leb n (2 * mostVertices) l)
+      (ap (λ (es : List ℕ). answer (keptText es kept unreserved)) (pick-same (isKept (take n marks)) (isKept marks) n 0 (λ i k. getD-take n marks i false (omega arith))))
 
 -- the costs are left to write behind the kept edges
 pub costs-left : (es : List ℕ) (kept unreserved : ℤ) (old out : List ℕ) (at : ℕ) → at ≡ length (listText es) → out ≡ over (listText es) old

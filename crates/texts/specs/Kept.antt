@@ -2,11 +2,14 @@
 use mathlib.Core.Bool.{Bool, false, cond}
 use mathlib.Core.List.{List, [], _∷_, _++_}
 use Prim.Native.Nat.{ℕ, zero, suc, _+_, _*_}
-use lib.ListN.{getD}
+use lib.Dec.{leb}
+use lib.ListN.{length, getD}
 use lib.IntN.{ℤ}
+use Rattle.frame.specs.Answer.{Answer, refused, answer}
 use Rattle.frame.specs.Table.{KEPT, COSTS, REFUSAL, lineLength}
 use Rattle.frame.specs.Line.{lineOf}
 use Rattle.frame.specs.Kinds.{ofCosts, ofRefusal}
+use Rattle.texts.specs.Limits.{mostVertices}
 use Rattle.texts.specs.Lists.{listText}
 
 -- the numbers from k on, n of them looked at, for which p holds
@@ -29,6 +32,11 @@ keptText es kept unreserved = listText es ++ lineOf COSTS (ofCosts (record { kep
 -- how many bytes the kept text of so many edges has
 unfoldable pub keptLength : ℕ → ℕ
 keptLength count = count * lineLength KEPT + lineLength COSTS
+
+-- the text of marked edges, or refusal 1 of more marks than any network has edges
+unfoldable pub writeKept : List Bool → ℤ → ℤ → Answer (List ℕ)
+writeKept marks kept unreserved =
+    cond (leb (length marks) (2 * mostVertices)) (answer (keptText (keptEdges (length marks) marks) kept unreserved)) (refused 1)
 
 -- the line of a refusal
 unfoldable pub refusalText : ℕ → List ℕ

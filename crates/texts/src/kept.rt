@@ -1,22 +1,26 @@
-// Kept texts and the refusal line. Their writers cannot refuse: whoever calls them has measured first.
+// Kept texts and the refusal line: written from their meanings.
+use super::limits::MOST_EDGES;
+use super::refusals::FORM;
+use super::refusals::SHORT;
 use frame::COSTS;
 use frame::Costs;
 use frame::KEPT;
 use frame::Kept;
 use frame::REFUSAL;
 use frame::Refusal;
+use frame::Reply;
 use frame::length_of;
 use frame::put_line;
 ghost use mathlib.Core.Path.{_≡_};
 ghost use Prim.Native.Nat.{_*_, _≤_};
 ghost use lib.ListN.{length};
-ghost use Rattle.frame.specs.Answer.{over};
+ghost use Rattle.frame.specs.Answer.{answer, over, replyOf, after};
 ghost use Rattle.texts.specs.Limits.{mostVertices};
 ghost use Rattle.texts.specs.Lists.{listText};
-ghost use Rattle.texts.specs.Kept.{keptEdges, keptText, keptLength, refusalText};
+ghost use Rattle.texts.specs.Kept.{keptEdges, keptText, keptLength, writeKept, refusalText};
 
 // How many of the first edges are kept.
-pub fn count_kept(kept: &[bool], edges: usize) -> usize
+fn count_kept(kept: &[bool], edges: usize) -> usize
     requires { ⌜ edges ≤ length (now kept) ⌝ }
     ensures { λ r. ⌜ r ≡ length (keptEdges edges (now (kept .entry))) ⌝ }
 {
@@ -57,29 +61,48 @@ fn put_kept(kept: &[bool], edges: usize, text: &mut [u8]) -> usize
     at
 }
 
-// Writes the kept text of the first edges to the start of `text`, and answers how many bytes it has.
-pub fn write_kept(kept: &[bool], edges: usize, cost: i64, unreserved: i64, text: &mut [u8]) -> usize
+// Writes the kept text of the first edges to the start of `text`.
+fn put_text(kept: &[bool], edges: usize, cost: i64, unreserved: i64, text: &mut [u8])
     requires { ⌜ (edges ≤ length (now kept)) ×
         (length (keptText (keptEdges edges (now kept)) cost unreserved) ≤ length (now text)) ⌝ }
-    ensures { λ r. ⌜ (r ≡ length (keptText (keptEdges edges (now (kept .entry))) cost unreserved)) ×
-        (now (text .exit) ≡
-        over (keptText (keptEdges edges (now (kept .entry))) cost unreserved) (now (text .entry))) ⌝ }
+    ensures { λ r. ⌜ now (text .exit) ≡
+        over (keptText (keptEdges edges (now (kept .entry))) cost unreserved) (now (text .entry)) ⌝ }
 {
     let at = put_kept(kept, edges, text);
     let costs = Costs {
         kept: cost,
         unreserved,
     };
-    at + put_line(&mut text[at..], COSTS, costs.fields())
+    put_line(&mut text[at..], COSTS, costs.fields());
 }
 
-// Writes the line of a refusal to the start of `text`, and answers how many bytes it has.
-pub fn write_refusal(number: u8, text: &mut [u8]) -> usize
-    requires { ⌜ length (refusalText number) ≤ length (now text) ⌝ }
-    ensures { λ r. ⌜ (r ≡ length (refusalText number)) × (now (text .exit) ≡ over (refusalText number) (now (text .entry))) ⌝ }
+// Writes the kept text of marked edges, with their cost and that of all edges but the reserved one. A column of more marks than any network has edges is refused by 1.
+pub fn write_kept(kept: &[bool], cost: i64, unreserved: i64, text: &mut [u8]) -> Reply
+    ensures { λ r. ⌜ (r ≡ replyOf (writeKept (now (kept .entry)) cost unreserved) (now (text .entry))) ×
+        (now (text .exit) ≡ after (writeKept (now (kept .entry)) cost unreserved) (now (text .entry))) ⌝ }
+{
+    let edges = kept.len();
+    if MOST_EDGES < edges {
+        return Reply::Refused(FORM);
+    }
+    let length = kept_length(kept, edges);
+    if text.len() < length {
+        return Reply::Refused(SHORT);
+    }
+    put_text(kept, edges, cost, unreserved, text);
+    Reply::Done(length)
+}
+
+// Writes the line of a refusal.
+pub fn write_refusal(number: u8, text: &mut [u8]) -> Reply
+    ensures { λ r. ⌜ (r ≡ replyOf (answer (refusalText number)) (now (text .entry))) ×
+        (now (text .exit) ≡ after (answer (refusalText number)) (now (text .entry))) ⌝ }
 {
     let refusal = Refusal {
         number: number as u64,
     };
-    put_line(text, REFUSAL, refusal.fields())
+    if text.len() < length_of(REFUSAL) {
+        return Reply::Refused(SHORT);
+    }
+    Reply::Done(put_line(text, REFUSAL, refusal.fields()))
 }

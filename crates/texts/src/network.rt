@@ -93,8 +93,8 @@ fn read_edges(
     if at < text.len() { FORM } else { 0 }
 }
 
-// Reads a network text into columns of the caller's, which have room for any network. After a refusal the columns may hold anything.
-pub fn read_columns(text: &[u8], low: &mut [u16], high: &mut [u16], cost: &mut [i64]) -> ReadNetwork
+// Reads a network text into columns that have room for any network. After a refusal they may hold anything.
+fn read_columns(text: &[u8], low: &mut [u16], high: &mut [u16], cost: &mut [i64]) -> ReadNetwork
     requires { ⌜ Columns mostVertices (now low) (now high) (now cost) ⌝ }
     ensures { λ r. ⌜ NetworkRead (readNetwork (now (text .entry)))
         (now (low .entry)) (now (high .entry)) (now (cost .entry)) (now (low .exit)) (now (high .exit)) (now (cost .exit)) r ⌝ }

@@ -4,12 +4,13 @@ use mathlib.Core.Bool.{Bool}
 use mathlib.Core.List.{List}
 use Prim.Native.Nat.{ℕ}
 use native.Mathlib.Omega.{arith}
-use lib.ListN.{length}
+use lib.ListN.{length, take}
 use lib.IntN.{ℤ, natAbs}
 use mir.Syntax.{w64}
 use mir.Val.{toZ, ofZ}
-use Rattle.texts.specs.Kept.{keptEdges, keptText, keptLength}
-use Rattle.texts.proofs.KeptTexts.{length-kept}
+use Rattle.frame.specs.Answer.{answer}
+use Rattle.texts.specs.Kept.{keptEdges, keptText, keptLength, writeKept}
+use Rattle.texts.proofs.KeptTexts.{length-kept, first-marks}
 use Rattle.graph.specs.Network.{keptCost, allButReserved}
 use Rattle.graph.specs.declared.Network.{Network}
 use Rattle.thinning.specs.Running.{Keeping}
@@ -24,9 +25,15 @@ module _ {g : Network} {K : List Bool} (k : Keeping g K) where
 
   -- the costs as the code hands them over
   module _ (kept unreserved : ℤ) (ek : kept ≡ keptCost g K) (eu : unreserved ≡ allButReserved g) where
-    pub kept-text : keptText (keptEdges (g .edges) K) (toZ w64 (ofZ w64 kept)) (toZ w64 (ofZ w64 unreserved)) ≡ keptOf g K
+    kept-text : keptText (keptEdges (g .edges) K) (toZ w64 (ofZ w64 kept)) (toZ w64 (ofZ w64 unreserved)) ≡ keptOf g K
     unfolding keptOf
     kept-text =
         ap₂ (keptText (keptEdges (g .edges) K))
         (read-back kept (omega (arith, ap natAbs ek, kept-small g K (k .light))) ∙ ek)
         (read-back unreserved (omega (arith, ap natAbs eu, reserved-small g (k .edge-room) (k .reserved-room) (k .light))) ∙ eu)
+
+    -- and what the writer answers for the marks of the network's edges
+    pub kept-written : writeKept (take (g .edges) K) (toZ w64 (ofZ w64 kept)) (toZ w64 (ofZ w64 unreserved)) ≡ answer (keptOf g K)
+    kept-written =
+        first-marks K (toZ w64 (ofZ w64 kept)) (toZ w64 (ofZ w64 unreserved)) (g .edges) (omega (arith, k .long, k .edge-room)) (omega (arith, k .edge-room))
+        ∙ ap answer kept-text

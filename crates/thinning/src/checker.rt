@@ -3,11 +3,9 @@ use super::chain::check_from;
 use super::costs::all_but_reserved;
 use super::costs::kept_cost;
 use super::network::accept;
-use super::refusals::SHORT;
 use frame::Reply;
 use graph::Kept;
 use graph::Network;
-use texts::kept_length;
 use texts::write_kept;
 ghost use mathlib.Core.Path.{_≡_};
 ghost use Rattle.frame.specs.Answer.{answer, replyOf, after};
@@ -22,14 +20,9 @@ pub fn put_kept(network: Network, kept: Kept, text: &mut [u8]) -> Reply
 {
     let edges = network.edges;
     let marks = kept.marks;
-    let length = kept_length(&marks, edges);
-    if text.len() < length {
-        return Reply::Refused(SHORT);
-    }
     let cost = kept_cost(network, kept);
     let unreserved = all_but_reserved(network);
-    write_kept(&marks, edges, cost, unreserved, text);
-    Reply::Done(length)
+    write_kept(&marks[..edges], cost, unreserved, text)
 }
 
 // Checks any bytes proposed as a chain over a network text, and writes the kept text: the network's refusals, then the chain's, then 13.

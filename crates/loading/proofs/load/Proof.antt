@@ -4,17 +4,17 @@ use Rattle.loading.proofs.Reading.{found-stated, found-network, refused
 use Rattle.loading.proofs.load.Statement.{statement}
 use Rattle.loading.proofs.load.Tie as tie
 
-slice-aggregate-read-columns : tie.Need-slice-aggregate-read-columns
-slice-aggregate-read-columns c = search needs
+slice-aggregate-read-network : tie.Need-slice-aggregate-read-network
+slice-aggregate-read-network c = search needs
 
-slice-aggregate-read-columns-2 : tie.Need-slice-aggregate-read-columns-2
-slice-aggregate-read-columns-2 c = search needs
+slice-aggregate-read-network-2 : tie.Need-slice-aggregate-read-network-2
+slice-aggregate-read-network-2 c = search needs
 
-slice-aggregate-read-columns-3 : tie.Need-slice-aggregate-read-columns-3
-slice-aggregate-read-columns-3 c = search needs
+slice-aggregate-read-network-3 : tie.Need-slice-aggregate-read-network-3
+slice-aggregate-read-network-3 c = search needs
 
-read-columns-requires : tie.Need-read-columns-requires
-read-columns-requires c κs = search needs
+read-network-requires : tie.Need-read-network-requires
+read-network-requires c κs = search needs
 
 enum-known-refusal : tie.Need-enum-known-refusal
 enum-known-refusal c = search needs
@@ -36,30 +36,30 @@ state-requires c κs =
     let k = c .before .before in
     let r = k .before .before .before .before .before .before in
     let a = r .before .before .before .before .before in
-    found-stated (a .args .text .now) _ _ _ (r .read-columns .result) (r .read-columns .ensures) _ _ (k .before .vertices .given .1)
+    found-stated (a .args .text .now) _ _ _ (r .read-network .result) (r .read-network .ensures) _ _ (k .before .vertices .given .1)
 
 returns : tie.Need-returns
 returns c =
     let k = c .before in
     let r = k .before .before .before .before .before .before in
     let a = r .before .before .before .before .before in
-    refused-network (a .args .text .now) _ _ _ (r .read-columns .result) (r .read-columns .ensures) _ (k .before .refusal .given .1) (c .nothing .result)
+    refused-network (a .args .text .now) _ _ _ (r .read-network .result) (r .read-network .ensures) _ (k .before .refusal .given .1) (c .nothing .result)
 
 returns-2 : tie.Need-returns-2
 returns-2 c =
     let k = c .before .before .before in
     let r = k .before .before .before .before .before .before in
     let a = r .before .before .before .before .before in
-    found-network (a .args .text .now) _ _ _ (r .read-columns .result) (r .read-columns .ensures) _ _ (k .before .vertices .given .1) (c .state .result) (c .state .ensures)
+    found-network (a .args .text .now) _ _ _ (r .read-network .result) (r .read-network .ensures) _ _ (k .before .vertices .given .1) (c .state .result) (c .state .ensures)
 
 pub load-spec : {M : Type 1} → statement M
 load-spec =
     tie.close
     (tie.spec
-    slice-aggregate-read-columns
-    slice-aggregate-read-columns-2
-    slice-aggregate-read-columns-3
-    read-columns-requires
+    slice-aggregate-read-network
+    slice-aggregate-read-network-2
+    slice-aggregate-read-network-3
+    read-network-requires
     enum-known-refusal
     nothing-requires
     enum-known-vertices

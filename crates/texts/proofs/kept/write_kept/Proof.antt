@@ -1,84 +1,53 @@
 -- `texts::kept::write_kept` meets its contract.
-use mathlib.Core.Path.{refl}
+use mathlib.Core.Path.{_∙_, sym, ap}
 use native.Mathlib.Omega.{arith}
-use lib.Dec.{lit<}
-use lib.ListN.{length-append}
+use lib.ListN.{length}
 use mir.Facts.{toZ-ofZ}
-use Rattle.frame.specs.Table.{COSTS}
-use Rattle.frame.specs.Line.{lineOf}
-use Rattle.frame.specs.Kinds.{ofCosts}
-use Rattle.texts.specs.Lists.{listText}
-use Rattle.texts.specs.Kept.{keptEdges, keptText}
-use Rattle.texts.proofs.Pieces.{written-all, written-size, line-within, line-room, line-more}
-use Rattle.texts.proofs.KeptTexts.{costs-left}
 use borrow.Author.Needs.{needs}
+use Rattle.frame.specs.declared.reply.Reply.the-variants.{Done}
+use Rattle.frame.proofs.Answers.{refuses, short, fits}
+use Rattle.texts.specs.Kept.{keptEdges, writeKept}
+use Rattle.texts.proofs.KeptTexts.{length-kept, kept-fits, marks-refused, marks-written}
 use Rattle.texts.proofs.kept.write_kept.Statement.{statement}
 use Rattle.texts.proofs.kept.write_kept.Tie as tie
 
-put-kept-requires : tie.Need-put-kept-requires
-unfolding keptText
-put-kept-requires c κs =
+returns : tie.Need-returns
+returns c =
     let s = c .before .before .before in
-    let es = keptEdges (s .args .edges) (s .args .kept .now) in
-    let costs = ofCosts (record { kept = s .args .cost; unreserved = s .args .unreserved }) in
-    (s .pre .0, omega (arith, s .pre .1, length-append (listText es) (lineOf COSTS costs)))
+    refuses (writeKept (s .args .kept .now) (s .args .cost) (s .args .unreserved)) (s .args .text .now) 1
+    (marks-refused (s .args .kept .now) (s .args .cost) (s .args .unreserved) (c .if1 .taken))
 
-sub-put-line : tie.Need-sub-put-line
-sub-put-line c =
-    let s = c .before .before .before .before .before .before in
-    let p = c .before .before .put-kept .ensures in
-    let w = costs-left (keptEdges (s .args .edges) (s .args .kept .now)) (s .args .cost) (s .args .unreserved) (s .args .text .now) _ _ (p .0) (p .1) (s .pre .1) in
-    omega (arith, written-size _ _ _ _ _ w, w .place, w .room)
+kept-length-requires : tie.Need-kept-length-requires
+kept-length-requires c κs = search needs
 
-part-put-line-start : tie.Need-part-put-line-start
-part-put-line-start c =
-    let s = c .before .before .before .before .before .before in
-    let p = c .before .before .put-kept .ensures in
-    let w = costs-left (keptEdges (s .args .edges) (s .args .kept .now)) (s .args .cost) (s .args .unreserved) (s .args .text .now) _ _ (p .0) (p .1) (s .pre .1) in
-    omega (arith, written-size _ _ _ _ _ w, w .place, w .room)
+returns-2 : tie.Need-returns-2
+returns-2 c =
+    let k = c .before in
+    let s = k .before .before .before .before in
+    short (writeKept (s .args .kept .now) (s .args .cost) (s .args .unreserved)) (s .args .text .now) _
+    (marks-written (s .args .kept .now) (s .args .cost) (s .args .unreserved) (k .before .if1 .left))
+    (omega (arith, k .kept-length .ensures, length-kept (keptEdges (length (s .args .kept .now)) (s .args .kept .now)) (s .args .cost) (s .args .unreserved), c .if2 .taken))
 
-part-put-line-end : tie.Need-part-put-line-end
-part-put-line-end c = search needs
-
-fields-requires : tie.Need-fields-requires
-fields-requires c κs = search needs
-
-put-line-requires : tie.Need-put-line-requires
-put-line-requires c κs =
-    let s = c .before .before .before .before .before .before .before .before in
-    let p = c .before .before .before .before .put-kept .ensures in
-    let w = costs-left (keptEdges (s .args .edges) (s .args .kept .now)) (s .args .cost) (s .args .unreserved) (s .args .text .now) _ _ (p .0) (p .1) (s .pre .1) in
-    (lit< tt, line-room _ _ _ _ _ COSTS _ w)
-
-add-result : tie.Need-add-result
-add-result c =
-    let s = c .before .before .before .before .before .before .before .before .before .before .before in
-    let p = c .before .before .before .before .before .before .before .put-kept .ensures in
-    let w = costs-left (keptEdges (s .args .edges) (s .args .kept .now)) (s .args .cost) (s .args .unreserved) (s .args .text .now) _ _ (p .0) (p .1) (s .pre .1) in
-    omega (arith, line-within _ _ _ _ _ COSTS _ w)
+put-text-requires : tie.Need-put-text-requires
+put-text-requires c κs = let k = c .before .before in (search needs, kept-fits _ _ _ _ _ (k .kept-length .ensures) (c .before .if2 .left))
 
 same-length : tie.Need-same-length
 same-length c = search needs
 
-returns : tie.Need-returns
-returns c =
-    let s = c .before .before .before .before .before .before .before .before .before .before .before in
-    let p = c .before .before .before .before .before .before .before .put-kept .ensures in
-    let w = costs-left (keptEdges (s .args .edges) (s .args .kept .now)) (s .args .cost) (s .args .unreserved) (s .args .text .now) _ _ (p .0) (p .1) (s .pre .1) in
-    let e =
-    simp (c .before .before .before .fields .ensures, toZ-ofZ (s .fits .cost), toZ-ofZ (s .fits .unreserved)) at (c .before .before .put-line .ensures .1) in
-    written-all _ _ _ _ _ (line-more _ _ _ _ _ COSTS _ w _ _ (c .before .before .put-line .ensures .0) e) refl
+returns-3 : tie.Need-returns-3
+returns-3 c =
+    let p = c .before .before in
+    let e = p .before .before in
+    let k = e .before in
+    let s = k .before .before .before .before in
+    let is = marks-written (s .args .kept .now) (s .args .cost) (s .args .unreserved) (k .before .if1 .left) in
+    let f = fits (writeKept (s .args .kept .now) (s .args .cost) (s .args .unreserved)) (s .args .text .now) _ is
+    (kept-fits _ (s .args .cost) (s .args .unreserved) _ _ (k .kept-length .ensures) (e .if2 .left)) in (
+      ap Done (k .kept-length .ensures ∙ sym (length-kept _ (s .args .cost) (s .args .unreserved))) ∙ f .0,
+      rw (toZ-ofZ (s .fits .cost), toZ-ofZ (s .fits .unreserved)) at (p .put-text .ensures) ∙ f .1,
+    )
 
 pub write-kept-spec : {M : Type 1} → statement M
 write-kept-spec =
     tie.close
-    (tie.spec
-    put-kept-requires
-    sub-put-line
-    part-put-line-start
-    part-put-line-end
-    fields-requires
-    put-line-requires
-    add-result
-    same-length
-    returns)
+    (tie.spec returns kept-length-requires returns-2 put-text-requires same-length returns-3)
