@@ -17,7 +17,7 @@ use Rattle.thinning.specs.Running.{Running}
 use Rattle.thinning.specs.Verdicts.{checkChain}
 use Rattle.thinning.specs.Plans.{planChain}
 use Rattle.thinning.specs.Services.{acceptNetwork, keptOf, keptIn, textsOf, checkChainText, planText}
-use Rattle.thinning.specs.Condition.{PassesText, RuledText, GoodText, TextCondition}
+use Rattle.thinning.specs.Condition.{PassesText, RuledText, Rising, GoodText, TextCondition}
 use Rattle.thinning.proofs.ChainTexts.{Meant, bytes-meant, meaning-passes}
 use Rattle.thinning.proofs.Accepting.{accepted-running, chain-kept}
 
@@ -26,6 +26,19 @@ same-pick : (n k : ℕ) (p : ℕ → Bool) → keptPick n k p ≡ pick n k p
 unfolding keptPick pick
 same-pick zero k p = refl
 same-pick (suc n) k p = ap (λ l. cond (p k) (k ∷ l) l) (same-pick n (suc k) p)
+
+picked-rise : (n k : ℕ) (p : ℕ → Bool) → Rising (pick n k p)
+unfolding pick
+picked-rise zero k p = tt
+picked-rise (suc n) k p = go (p k) (picked-rise n (suc k) p)
+  where
+    go : (b : Bool) → Rising (pick n (suc k) p) → Rising (cond b (k ∷ pick n (suc k) p) (pick n (suc k) p))
+    go true later = (λ f h. omega (arith, pick-among n (suc k) p f h .0), later)
+    go false later = later
+
+rising : (n : ℕ) (K : List Bool) → Rising (keptEdges n K)
+unfolding keptEdges
+rising n K = rw (same-pick n 0 (kept K)) (picked-rise n 0 (kept K))
 
 listed : (n : ℕ) (K : List Bool) (e : ℕ) → e < n → among e (keptEdges n K) ≡ kept K e
 unfolding keptEdges
@@ -80,6 +93,7 @@ module _ (network : List ℕ) (g : Network) (e : acceptNetwork network ≡ answe
       record {
         marks = f .marks;
         text-is = f .text-is;
+        rises = rising (g .edges) (f .marks);
         lists = listed (g .edges) (f .marks);
         good = passes-good (m .steps) (running .sound) (m .dropped) (f .marks) (m .passes);
       }

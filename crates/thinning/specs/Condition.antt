@@ -1,6 +1,6 @@
 -- Condition 3 over texts: what passes, what it keeps, and that the planner's chain passes.
-use mathlib.Core.Bool.{Bool}
-use mathlib.Core.List.{List, map}
+use mathlib.Core.Bool.{Bool, true}
+use mathlib.Core.List.{List, [], _∷_, map}
 use mathlib.Core.Logic.{_↔_}
 use mathlib.Core.Path.{_≡_}
 use Prim.Native.Nat.{ℕ, _<_}
@@ -27,10 +27,16 @@ pub record RuledText (g : Network) (chain : List ℕ) : Type 0 where
   pub text-is : chain ≡ chainText (map inFrame steps) dropped
   pub by-rules : ByRules g steps dropped
 
+-- numbers that rise, so that none stands twice
+abbrev pub Rising : List ℕ → Type 0
+Rising [] = Unit
+Rising (e ∷ es) = ((f : ℕ) → among f es ≡ true → e < f) × Rising es
+
 -- a kept text as it is owed: it lists exactly the edges of a good kept set, with their cost and that of all edges but the reserved one
 pub record GoodText (g : Network) (text : List ℕ) : Type 0 where
   pub marks : List Bool
   pub text-is : text ≡ keptOf g marks
+  pub rises : Rising (keptEdges (g .edges) marks)
   pub lists : (e : ℕ) → e < g .edges → among e (keptEdges (g .edges) marks) ≡ kept marks e
   pub good : Good g marks
 
