@@ -17,7 +17,7 @@ use Rattle.frame.specs.Line.{lineOf}
 use Rattle.frame.specs.Frames.{listed, linesOf}
 use Rattle.frame.specs.Kinds.{ofCosts, ofRefusal}
 use Rattle.frame.proofs.Lines.{length-line}
-use Rattle.texts.specs.Limits.{mostVertices, verticesOk}
+use Rattle.texts.specs.Limits.{mostEdges, verticesOk}
 use Rattle.texts.specs.Lists.{frameOf, risingFrom, meaningOf, listText, writeList}
 use Rattle.texts.specs.Kept.{pick, isKept, keptEdges, keptText, keptLength, writeKept, refusalText}
 use Rattle.texts.proofs.ListsTexts.{length-list}
@@ -73,20 +73,20 @@ kept-fits es kept unreserved n m e h = omega (arith, length-kept es kept unreser
 
 -- the writer's answer, by the number of marks
 module _ (marks : List Bool) (kept unreserved : ℤ) where
-  pub marks-refused : 2 * mostVertices < length marks → writeKept marks kept unreserved ≡ refused 1
+  pub marks-refused : mostEdges < length marks → writeKept marks kept unreserved ≡ refused 1
   unfolding writeKept
-  marks-refused h = rw (lt-leb (length marks) (2 * mostVertices) h)
+  marks-refused h = rw (lt-leb (length marks) (mostEdges) h)
 
-  pub marks-written : length marks ≤ 2 * mostVertices → writeKept marks kept unreserved ≡ answer (keptText (keptEdges (length marks) marks) kept unreserved)
+  pub marks-written : length marks ≤ mostEdges → writeKept marks kept unreserved ≡ answer (keptText (keptEdges (length marks) marks) kept unreserved)
   unfolding writeKept
-  marks-written h = rw (le-leb (length marks) (2 * mostVertices) h)
+  marks-written h = rw (le-leb (length marks) (mostEdges) h)
 
   -- only the first n of the marks
-  pub first-marks : (n : ℕ) → n ≤ length marks → n ≤ 2 * mostVertices → writeKept (take n marks) kept unreserved ≡ answer (keptText (keptEdges n marks) kept unreserved)
+  pub first-marks : (n : ℕ) → n ≤ length marks → n ≤ mostEdges → writeKept (take n marks) kept unreserved ≡ answer (keptText (keptEdges n marks) kept unreserved)
   unfolding writeKept keptEdges
   first-marks n h l =
       let e : length (take n marks) ≡ n = length-take-le n marks h in
-      rw (e, le-leb n (2 * mostVertices) l)
+      rw (e, le-leb n (mostEdges) l)
       (ap (λ (es : List ℕ). answer (keptText es kept unreserved)) (pick-same (isKept (take n marks)) (isKept marks) n 0 (λ i k. getD-take n marks i false (omega arith))))
 
 -- the costs are left to write behind the kept edges

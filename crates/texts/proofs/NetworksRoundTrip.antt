@@ -1,12 +1,14 @@
 -- Network texts and their meanings are one to one, and the writer refuses a meaning exactly where and as the reader refuses its text.
 -- Assumes nothing.
 use mathlib.Core.Path.{_≡_, refl, sym, _∙_, ap}
+use mathlib.Core.Bool.{Bool, true, false, cond}
 use mathlib.Core.List.{List, [], _∷_, _++_, map}
 use Prim.Native.Nat.{ℕ, zero, suc, _+_, _*_, _≤_, _<_}
 use native.Mathlib.Omega.{arith}
-use lib.Dec.{lit<}
+use lib.Dec.{ltb, lit<}
 use lib.ListN.{length, length-append, length-map}
 use lib.IntN.{ℤ}
+use borrow.Author.Tests.{lt-ltb}
 use Rattle.frame.specs.Answer.{Answer, refused, answer, andThen}
 use Rattle.frame.specs.Table.{HEAD, EDGE, lineLength, startOf, placeOf, total, bytesOf, padded, widths, digitsOf}
 use Rattle.frame.specs.Line.{isLine, fieldsOf, lineOf, Fits}
@@ -18,8 +20,8 @@ use Rattle.frame.proofs.Lines.{length-line, line-is, line-rest, line-back, line
 use Rattle.frame.proofs.Named.{edge-found, head-back}
 use Rattle.frame.proofs.Runs.{run-left}
 use Rattle.frame.proofs.Signs.{unsigned-lt}
-use Rattle.texts.specs.Limits.{mostVertices, mostEdges, unless, refusalOf}
-use Rattle.texts.specs.Networks.{Meaning, Edges, finished, interrupted, next, headRefusal, checked, meaningOf, inFrames, edgesOf, readNetwork, inColumns, edgesIn, edgesText, networkText, writeNetwork, textOf, EdgeSpellable, AllSpellable, Spellable}
+use Rattle.texts.specs.Limits.{mostVertices, mostEdges, verticesOk, unless, refusalOf}
+use Rattle.texts.specs.Networks.{Meaning, meant, Edges, finished, interrupted, next, headRefusal, checked, meaningOf, inFrames, edgesOf, readNetwork, inColumns, edgesIn, edgesText, networkText, writeNetwork, textOf, EdgeSpellable, AllSpellable, Spellable}
 use Rattle.texts.proofs.LimitLaws.{cost-spelt}
 use Rattle.texts.proofs.NetworksEdges.{HeadPassed, EdgePassed, head-passed}
 use Rattle.texts.proofs.NetworksWhole.{AllPassed, complete}
@@ -215,3 +217,29 @@ written-read t m x = go (writeNetwork m) refl
 -- so no other text has that meaning
 pub one-text : (s t : List ℕ) (m : Meaning) → readNetwork s ≡ answer m → readNetwork t ≡ answer m → s ≡ t
 one-text s t m x y = cc (written-read s m x, written-read t m y)
+
+-- ── another edge reserved ──
+head-free : (n i r : ℕ) → headRefusal n i ≡ 0 → r < 2 * n → headRefusal n r ≡ 0
+unfolding headRefusal
+head-free n i r x h = go (verticesOk n) (ltb i (2 * n)) x
+  where
+    go : (b d : Bool) → (let three : ℕ = cond d 0 3 in cond b three 2) ≡ 0 → (let three : ℕ = cond (ltb r (2 * n)) 0 3 in cond b three 2) ≡ 0
+    go true d x = rw (lt-ltb r (2 * n) h)
+    go false d x = absurd (omega arith)
+
+-- with another edge reserved a network has a text too
+pub any-reserved : (t : List ℕ) (m : Meaning) (r : ℕ) → readNetwork t ≡ answer m → r < 2 * m .vertices
+    → (s : List ℕ) × (readNetwork s ≡ answer (meant (m .vertices) r (m .low) (m .high) (m .cost)))
+unfolding writeNetwork unless andThen
+any-reserved t m r x h =
+    go (headRefusal (m .vertices) (m .reserved)) refl (checked (m .vertices) 0 (inColumns (2 * m .vertices) 0 (m .low) (m .high) (m .cost))) refl (written-read t m x)
+  where
+    go : (k : ℕ) → headRefusal (m .vertices) (m .reserved) ≡ k
+        → (a : Answer (List Edge)) → checked (m .vertices) 0 (inColumns (2 * m .vertices) 0 (m .low) (m .high) (m .cost)) ≡ a
+        → unless k (andThen a (λ es. answer (networkText (m .vertices) (m .reserved) es))) ≡ answer t
+        → (s : List ℕ) × (readNetwork s ≡ answer (meant (m .vertices) r (m .low) (m .high) (m .cost)))
+    go (suc k) p a q e = let z : _≡_ {A = ℕ} 0 1 = cc in absurd (omega arith)
+    go zero p (refused j) q e = let z : _≡_ {A = ℕ} 0 1 = cc in absurd (omega arith)
+    go zero p (answer es) q e =
+        let s = networkText (m .vertices) r es in
+        (s, read-written (meant (m .vertices) r (m .low) (m .high) (m .cost)) s (rw (head-free (m .vertices) (m .reserved) r p h, q)))

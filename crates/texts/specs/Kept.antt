@@ -9,7 +9,7 @@ use Rattle.frame.specs.Answer.{Answer, refused, answer}
 use Rattle.frame.specs.Table.{KEPT, COSTS, REFUSAL, lineLength}
 use Rattle.frame.specs.Line.{lineOf}
 use Rattle.frame.specs.Kinds.{ofCosts, ofRefusal}
-use Rattle.texts.specs.Limits.{mostVertices}
+use Rattle.texts.specs.Limits.{mostEdges}
 use Rattle.texts.specs.Lists.{listText}
 
 -- the numbers from k on, n of them looked at, for which p holds
@@ -36,7 +36,7 @@ keptLength count = count * lineLength KEPT + lineLength COSTS
 -- the text of marked edges, or refusal 1 of more marks than any network has edges
 unfoldable pub writeKept : List Bool → ℤ → ℤ → Answer (List ℕ)
 writeKept marks kept unreserved =
-    cond (leb (length marks) (2 * mostVertices)) (answer (keptText (keptEdges (length marks) marks) kept unreserved)) (refused 1)
+    cond (leb (length marks) mostEdges) (answer (keptText (keptEdges (length marks) marks) kept unreserved)) (refused 1)
 
 -- the line of a refusal
 unfoldable pub refusalText : ℕ → List ℕ

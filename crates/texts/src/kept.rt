@@ -12,10 +12,10 @@ use frame::Reply;
 use frame::length_of;
 use frame::put_line;
 ghost use mathlib.Core.Path.{_≡_};
-ghost use Prim.Native.Nat.{_*_, _≤_};
+ghost use Prim.Native.Nat.{_≤_};
 ghost use lib.ListN.{length};
 ghost use Rattle.frame.specs.Answer.{answer, over, replyOf, after};
-ghost use Rattle.texts.specs.Limits.{mostVertices};
+ghost use Rattle.texts.specs.Limits.{mostEdges};
 ghost use Rattle.texts.specs.Lists.{listText};
 ghost use Rattle.texts.specs.Kept.{keptEdges, keptText, keptLength, writeKept, refusalText};
 
@@ -37,7 +37,7 @@ fn count_kept(kept: &[bool], edges: usize) -> usize
 
 // How many bytes the kept text has, whatever the costs are.
 pub fn kept_length(kept: &[bool], edges: usize) -> usize
-    requires { ⌜ (edges ≤ length (now kept)) × (edges ≤ 2 * mostVertices) ⌝ }
+    requires { ⌜ (edges ≤ length (now kept)) × (edges ≤ mostEdges) ⌝ }
     ensures { λ r. ⌜ r ≡ keptLength (length (keptEdges edges (now (kept .entry)))) ⌝ }
 {
     count_kept(kept, edges) * length_of(KEPT) + length_of(COSTS)

@@ -2,12 +2,17 @@
 use mathlib.Core.Path.{_≡_, refl, sym, _∙_, ap}
 use mathlib.Core.Bool.{Bool, true, false, cond}
 use mathlib.Core.List.{List, _∷_}
-use Prim.Native.Nat.{ℕ, zero, suc, _-_, _<_}
+use Prim.Native.Nat.{ℕ, zero, suc, _-_, _*_, _<_}
 use native.Mathlib.Omega.{arith}
-use Rattle.frame.specs.Answer.{answer, andThen}
+use Rattle.frame.specs.Answer.{Answer, refused as refusedBy, answer, andThen}
+use Rattle.texts.specs.Limits.{unless}
+use Rattle.texts.specs.Networks.{Meaning, meant as meaning, readNetwork}
+use Rattle.texts.proofs.NetworksRoundTrip.{any-reserved}
+use Rattle.loading.specs.Loading.{stateOf, networkOf, loadNetwork}
 use Rattle.texts.specs.Kept.{keptEdges, pick as keptPick}
 use Rattle.graph.specs.Fold.{among, pick}
-use Rattle.graph.specs.Network.{kept}
+use Rattle.graph.specs.Network.{endsAt, degree, kept}
+use Rattle.graph.specs.Cut.{crosses, crossingsOf, crossedBy, everyCutOf, fourEach, networkRefusal}
 use Rattle.graph.specs.Chain.{Verdict, refused, keeps}
 use Rattle.graph.specs.Plan.{planSteps, planDrop, planKept}
 use Rattle.graph.specs.declared.Network.{Network}
@@ -17,7 +22,7 @@ use Rattle.thinning.specs.Running.{Running}
 use Rattle.thinning.specs.Verdicts.{checkChain}
 use Rattle.thinning.specs.Plans.{planChain}
 use Rattle.thinning.specs.Services.{acceptNetwork, keptOf, keptIn, textsOf, checkChainText, planText}
-use Rattle.thinning.specs.Condition.{PassesText, RuledText, Rising, GoodText, TextCondition}
+use Rattle.thinning.specs.Condition.{PassesText, RuledText, Rising, GoodText, reserving, TextCondition}
 use Rattle.thinning.proofs.ChainTexts.{Meant, bytes-meant, meaning-passes}
 use Rattle.thinning.proofs.Accepting.{accepted-running, chain-kept}
 
@@ -48,6 +53,36 @@ listed n K e l = rw (same-pick n 0 (kept K)) (agree (among e (pick n 0 (kept K))
     agree true b f g = sym (f refl)
     agree false true f g = g refl
     agree false false f g = refl
+
+-- ── another edge reserved ──
+
+-- degrees and cuts do not depend on it
+refusal-same : (r : ℕ) (g : Network) → networkRefusal (reserving r g) ≡ networkRefusal g
+unfolding networkRefusal fourEach degree endsAt everyCutOf crossedBy crossingsOf crosses
+refusal-same r g = refl
+
+state-same : (m : Meaning) (r : ℕ) → networkOf (meaning (m .vertices) r (m .low) (m .high) (m .cost)) ≡ reserving r (networkOf m)
+unfolding networkOf stateOf
+state-same m r = refl
+
+accepted-any : (network : List ℕ) (g : Network) → acceptNetwork network ≡ answer g → (r : ℕ) → r < g .edges → (t : List ℕ) × (acceptNetwork t ≡ answer (reserving r g))
+unfolding acceptNetwork loadNetwork andThen
+accepted-any network g e r h = go (readNetwork network) refl e
+  where
+    judged : (m : Meaning) → readNetwork network ≡ answer m → (k : ℕ) → networkRefusal (networkOf m) ≡ k
+        → unless k (answer (networkOf m)) ≡ answer g → (t : List ℕ) × (acceptNetwork t ≡ answer (reserving r g))
+    judged m q (suc k) p e = unfold unless in let z : _≡_ {A = ℕ} 0 1 = cc in absurd (omega arith)
+    judged m q zero p e = unfold unless acceptNetwork loadNetwork andThen networkOf stateOf in
+        let w : networkOf m ≡ g = cc in
+        let few : r < 2 * m .vertices = omega (arith, h, ap (λ g. g .edges) w) in
+        let s = any-reserved network m r q few in
+        (s .0, rw (s .1, state-same m r, refusal-same r (networkOf m), p) (ap (λ g. answer (reserving r g)) w))
+
+    go : (a : Answer Meaning) → readNetwork network ≡ a
+        → andThen (andThen a (λ m. answer (networkOf m))) (λ g. unless (networkRefusal g) (answer g)) ≡ answer g
+        → (t : List ℕ) × (acceptNetwork t ≡ answer (reserving r g))
+    go (refusedBy k) q e = unfold andThen in let z : _≡_ {A = ℕ} 0 1 = cc in absurd (omega arith)
+    go (answer m) q e = unfold andThen in judged m q (networkRefusal (networkOf m)) refl e
 
 module _ (network : List ℕ) (g : Network) (e : acceptNetwork network ≡ answer g) where
   running : Running g
@@ -114,4 +149,5 @@ module _ (network : List ℕ) (g : Network) (e : acceptNetwork network ≡ answe
     rules = λ chain. (ruled chain, passing chain);
     good = good-text;
     planned = (textsOf g (planKept (g .remaining - 2) g), plan-is, plan-passes);
+    any-reserved = accepted-any network g e;
   }

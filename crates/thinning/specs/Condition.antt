@@ -14,7 +14,7 @@ use Rattle.graph.specs.Condition.{Good}
 use Rattle.graph.specs.declared.Network.{Network}
 use Rattle.graph.specs.declared.Step.{Step}
 use Rattle.thinning.specs.Plans.{inFrame}
-use Rattle.thinning.specs.Services.{Texts, keptOf, checkChainText, planText}
+use Rattle.thinning.specs.Services.{Texts, acceptNetwork, keptOf, checkChainText, planText}
 
 -- a proposed chain passes: its check answers with a kept text
 abbrev pub PassesText : List ℕ → List ℕ → Type 0
@@ -40,6 +40,20 @@ pub record GoodText (g : Network) (text : List ℕ) : Type 0 where
   pub lists : (e : ℕ) → e < g .edges → among e (keptEdges (g .edges) marks) ≡ kept marks e
   pub good : Good g marks
 
+-- a network with edge r reserved
+abbrev pub reserving : ℕ → Network → Network
+reserving r g =
+    record {
+      low = g .low;
+      high = g .high;
+      cost = g .cost;
+      present = g .present;
+      reserved = r;
+      edges = g .edges;
+      vertices = g .vertices;
+      remaining = g .remaining;
+    }
+
 -- condition 3 for the network text of g
 pub record TextCondition (network : List ℕ) (g : Network) : Type 0 where
   -- whatever bytes are proposed: they pass exactly when they are a chain by the rules
@@ -48,3 +62,5 @@ pub record TextCondition (network : List ℕ) (g : Network) : Type 0 where
   pub good : (chain text : List ℕ) → checkChainText network chain ≡ answer text → GoodText g text
   -- the plan's chain passes, and its check gives the plan's kept text
   pub planned : (t : Texts) × (planText network ≡ answer t) × (checkChainText network (t .chain) ≡ answer (t .kept))
+  -- and with any other edge reserved the network is accepted too, so that all this holds of it
+  pub any-reserved : (r : ℕ) → r < g .edges → (t : List ℕ) × (acceptNetwork t ≡ answer (reserving r g))
