@@ -1,8 +1,8 @@
 -- Runs of frames, read frame by frame.
 -- Assumes nothing.
-use mathlib.Core.Path.{_≡_, refl, sym, _∙_, ap}
+use mathlib.Core.Path.{_≡_, refl, _∙_, ap}
 use mathlib.Core.Bool.{Bool, true, false, cond}
-use mathlib.Core.List.{List, [], _∷_, _++_}
+use mathlib.Core.List.{List, [], _∷_}
 use Prim.Native.Nat.{ℕ, zero, suc, _+_, _/_, _≤_, _<_}
 use native.Mathlib.Omega.{arith}
 use native.Mathlib.Numerals.{add-one}
@@ -10,11 +10,11 @@ use native.Mathlib.Nat.{zero-div, add-div-left}
 use lib.ListN.{length, drop, getD, replicate, length-drop, drop-of-length-le}
 use lib.Seq.{drop-cons, drop-drop}
 use Rattle.frame.specs.Table.{lineLength}
-use Rattle.frame.specs.Line.{lineOf, fieldsOf, isLine, lineAt, readLine, Fits}
+use Rattle.frame.specs.Line.{fieldsOf, isLine, lineAt, readLine, Fits}
 use Rattle.frame.specs.Frames.{done, broken, frame, framesOf, framesToEnd}
 use Rattle.frame.specs.declared.line.Fields.{Fields}
 use Rattle.frame.specs.declared.line.Line.the-variants.{Frame, Refused}
-use Rattle.frame.proofs.Lines.{formed, line-back, line-fits}
+use Rattle.frame.proofs.Lines.{formed, line-fits}
 
 -- what a reader learns from a line that it reads at a place
 pub record Next (row at : ℕ) (text : List ℕ) (f : Fields) (next : ℕ) : Type 0 where
@@ -45,11 +45,6 @@ module _ (row at : ℕ) (text : List ℕ) where
             fits = rw p (line-fits row (drop at text) i);
           }
       go false i e = let z : _≡_ {A = ℕ} 0 1 = cc in absurd (omega arith)
-
-  -- the line that was read, in front of what stands behind it
-  pub next-text : (f : Fields) (next : ℕ) → Next row at text f next → drop at text ≡ lineOf row f ++ drop next text
-  next-text f next x =
-      sym (line-back row (drop at text) (x .is)) ∙ rw (← x .fields, drop-drop, ← x .place)
 
   pub none-read : Refused ≡ readLine row text at → isLine row (drop at text) ≡ false
   unfolding readLine lineAt

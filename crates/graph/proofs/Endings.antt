@@ -60,9 +60,6 @@ module _ {g : Network} (sound : Sound g) (two : g .remaining ≡ 2) where
   is-o : (w : ℕ) → here g w ≡ true → w ≢ v → w ≡ o
   is-o w h ne = no-third (sound .formed) two v o w v-here o-here o≢v h ne
 
-  no-loop-v : (e : ℕ) → e < g .edges → lowEnd g e ≡ v → highEnd g e ≡ v → ⊥
-  no-loop-v = no-loop sound v-here o-here o≢v
-
   no-loop-o : (e : ℕ) → e < g .edges → lowEnd g e ≡ o → highEnd g e ≡ o → ⊥
   no-loop-o = no-loop sound o-here v-here (λ q. o≢v (sym q))
 
