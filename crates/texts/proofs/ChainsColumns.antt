@@ -16,21 +16,32 @@ use Rattle.frame.specs.declared.kinds.Step.{Step}
 use Rattle.texts.specs.Limits.{fewestVertices, verticesOk}
 use Rattle.texts.specs.Chains.{chainText, inColumns, stepsOf, writeChain}
 use Rattle.texts.proofs.ChainsTexts.{length-chain}
+use Rattle.texts.proofs.Pieces.{Written}
 
 -- columns that are equally long
 module _ (v x y : List ℕ) (p : length x ≡ length v) (q : length y ≡ length v) where
   -- the text from a place on
   module _ (d i : ℕ) where
-    pub text-next : i < length v
+    text-next : i < length v
         → chainText (stepsOf (drop i v) (drop i x) (drop i y)) d
         ≡ lineOf STEP (ofStep (record { v = getD v i 0; x = getD x i 0; y = getD y i 0 }))
         ++ chainText (stepsOf (drop (i + 1) v) (drop (i + 1) x) (drop (i + 1) y)) d
     unfolding chainText stepsOf
     text-next h = rw (add-one, drop-cons v i 0, drop-cons x i 0 (omega arith), drop-cons y i 0 (omega arith))
 
-    pub text-end : length v ≤ i → chainText (stepsOf (drop i v) (drop i x) (drop i y)) d ≡ lineOf DROPPED (ofDropped (record { edge = d })) ++ []
+    text-end : length v ≤ i → chainText (stepsOf (drop i v) (drop i x) (drop i y)) d ≡ lineOf DROPPED (ofDropped (record { edge = d })) ++ []
     unfolding chainText stepsOf
     text-end h = rw (drop-of-length-le v h, append-nil)
+
+    -- the line of the step at a place, or of the ending, is left to write
+    module _ {whole old out : List ℕ} {at : ℕ} (w : Written whole (chainText (stepsOf (drop i v) (drop i x) (drop i y)) d) old out at) where
+      pub step-left : i < length v
+          → Written whole (lineOf STEP (ofStep (record { v = getD v i 0; x = getD x i 0; y = getD y i 0 }))
+          ++ chainText (stepsOf (drop (i + 1) v) (drop (i + 1) x) (drop (i + 1) y)) d) old out at
+      step-left h = rw (text-next h) at w
+
+      pub ending-left : length v ≤ i → Written whole (lineOf DROPPED (ofDropped (record { edge = d })) ++ []) old out at
+      ending-left h = rw (text-end h) at w
 
 pub length-steps : (v x y : List ℕ) → length x ≡ length v → length y ≡ length v → length (stepsOf v x y) ≡ length v
 unfolding stepsOf

@@ -7,7 +7,7 @@ use lib.ListN.{length, drop}
 use borrow.Author.Needs.{needs}
 use Rattle.frame.specs.Table.{STEP, DROPPED}
 use Rattle.texts.specs.Chains.{chainText, stepsOf}
-use Rattle.texts.proofs.ChainsColumns.{text-next, text-end}
+use Rattle.texts.proofs.ChainsColumns.{step-left, ending-left}
 use Rattle.texts.proofs.Pieces.{Written, written-none, written-all, written-size, line-within, line-room, line-more}
 use Rattle.texts.proofs.chain.put_chain.Statement.{statement}
 use Rattle.texts.proofs.chain.put_chain.Tie as tie
@@ -19,6 +19,10 @@ Inv-loop v x y dropped text₀ at₀ i₀ text at i =
 
 abbrev μ-loop : tie.MeasureT-loop
 μ-loop v x y dropped text₀ at₀ i₀ text at i = length v - i
+
+-- the entry, seen from the loop
+abbrev entry : tie.At-loop Inv-loop μ-loop → tie.Start Inv-loop μ-loop
+entry c = c .before .before .before .before .before
 
 loop-holds : tie.Need-loop-holds Inv-loop μ-loop
 loop-holds c =
@@ -66,17 +70,19 @@ fields-requires c κs = search needs
 
 put-line-requires : tie.Need-put-line-requires Inv-loop μ-loop
 put-line-requires c κs =
-    let s = c .before .before .before .before .before .before .before .before .before .before .before in
-    let l = c .before .before .before .before .before .before .loop in
-    let w = rw (text-next (s .args .v .now) (s .args .x .now) (s .args .y .now) (s .pre .0) (s .pre .1) (s .args .dropped) (l .i) (search needs)) at (l .inv .1) in
-    (lit< tt, line-room _ _ _ _ _ STEP _ w)
+    let k = c .before .before .before .before .before .before in
+    let s = entry k in
+    let a = s .args in
+    let l = k .loop in
+    (lit< tt, line-room _ _ _ _ _ STEP _ (step-left (a .v .now) (a .x .now) (a .y .now) (s .pre .0) (s .pre .1) (a .dropped) (l .i) (l .inv .1) (search needs)))
 
 add-at : tie.Need-add-at Inv-loop μ-loop
 add-at c =
-    let s = c .before .before .before .before .before .before .before .before .before .before .before .before .before .before in
-    let l = c .before .before .before .before .before .before .before .before .before .loop in
-    let w = rw (text-next (s .args .v .now) (s .args .x .now) (s .args .y .now) (s .pre .0) (s .pre .1) (s .args .dropped) (l .i) (search needs)) at (l .inv .1) in
-    omega (arith, line-within _ _ _ _ _ STEP _ w)
+    let k = c .before .before .before .before .before .before .before .before .before in
+    let s = entry k in
+    let a = s .args in
+    let l = k .loop in
+    omega (arith, line-within _ _ _ _ _ STEP _ (step-left (a .v .now) (a .x .now) (a .y .now) (s .pre .0) (s .pre .1) (a .dropped) (l .i) (l .inv .1) (search needs)))
 
 add-i : tie.Need-add-i Inv-loop μ-loop
 add-i c = search needs
@@ -86,9 +92,11 @@ loop-less c = search needs
 
 loop-again : tie.Need-loop-again Inv-loop μ-loop
 loop-again c =
-    let s = c .before .before .before .before .before .before .before .before .before .before .before .before .before .before in
-    let l = c .before .before .before .before .before .before .before .before .before .loop in
-    let w = rw (text-next (s .args .v .now) (s .args .x .now) (s .args .y .now) (s .pre .0) (s .pre .1) (s .args .dropped) (l .i) (search needs)) at (l .inv .1) in (
+    let k = c .before .before .before .before .before .before .before .before .before in
+    let s = entry k in
+    let a = s .args in
+    let l = k .loop in
+    let w = step-left (a .v .now) (a .x .now) (a .y .now) (s .pre .0) (s .pre .1) (a .dropped) (l .i) (l .inv .1) (search needs) in (
       search needs,
       line-more _ _ _ _ _ STEP _ w _ _ (c .before .before .put-line .ensures .0)
           (rw (c .before .before .before .fields .ensures) at (c .before .before .put-line .ensures .1)),
@@ -108,32 +116,38 @@ fields-requires-2 c κs = search needs
 
 put-line-requires-2 : tie.Need-put-line-requires-2 Inv-loop μ-loop
 put-line-requires-2 c κs =
-    let s = c .before .before .before .before .before .before .before .before in
-    let l = c .before .before .before .loop in
-    let w = rw (text-end (s .args .v .now) (s .args .x .now) (s .args .y .now) (s .pre .0) (s .pre .1) (s .args .dropped) (l .i) (search needs)) at (l .inv .1) in
-    (lit< tt, line-room _ _ _ _ _ DROPPED _ w)
+    let k = c .before .before .before in
+    let s = entry k in
+    let a = s .args in
+    let l = k .loop in
+    (lit< tt, line-room _ _ _ _ _ DROPPED _ (ending-left (a .v .now) (a .x .now) (a .y .now) (s .pre .0) (s .pre .1) (a .dropped) (l .i) (l .inv .1) (search needs)))
 
 add-result : tie.Need-add-result Inv-loop μ-loop
 add-result c =
-    let s = c .before .before .before .before .before .before .before .before .before .before .before in
-    let l = c .before .before .before .before .before .before .loop in
-    let w = rw (text-end (s .args .v .now) (s .args .x .now) (s .args .y .now) (s .pre .0) (s .pre .1) (s .args .dropped) (l .i) (search needs)) at (l .inv .1) in
-    omega (arith, line-within _ _ _ _ _ DROPPED _ w)
+    let k = c .before .before .before .before .before .before in
+    let s = entry k in
+    let a = s .args in
+    let l = k .loop in
+    omega (arith, line-within _ _ _ _ _ DROPPED _ (ending-left (a .v .now) (a .x .now) (a .y .now) (s .pre .0) (s .pre .1) (a .dropped) (l .i) (l .inv .1) (search needs)))
 
 same-length : tie.Need-same-length Inv-loop μ-loop
 same-length c =
-    let s = c .before .before .before .before .before .before .before .before .before .before .before in
-    let l = c .before .before .before .before .before .before .loop in
-    let w = rw (text-end (s .args .v .now) (s .args .x .now) (s .args .y .now) (s .pre .0) (s .pre .1) (s .args .dropped) (l .i) (search needs)) at (l .inv .1) in
+    let k = c .before .before .before .before .before .before in
+    let s = entry k in
+    let a = s .args in
+    let l = k .loop in
+    let w = ending-left (a .v .now) (a .x .now) (a .y .now) (s .pre .0) (s .pre .1) (a .dropped) (l .i) (l .inv .1) (search needs) in
     written-size _ _ _ _ _
     (line-more _ _ _ _ _ DROPPED _ w _ _ (c .before .before .put-line2 .ensures .0)
     (rw (c .before .before .before .fields2 .ensures) at (c .before .before .put-line2 .ensures .1)))
 
 returns : tie.Need-returns Inv-loop μ-loop
 returns c =
-    let s = c .before .before .before .before .before .before .before .before .before .before .before in
-    let l = c .before .before .before .before .before .before .loop in
-    let w = rw (text-end (s .args .v .now) (s .args .x .now) (s .args .y .now) (s .pre .0) (s .pre .1) (s .args .dropped) (l .i) (search needs)) at (l .inv .1) in
+    let k = c .before .before .before .before .before .before in
+    let s = entry k in
+    let a = s .args in
+    let l = k .loop in
+    let w = ending-left (a .v .now) (a .x .now) (a .y .now) (s .pre .0) (s .pre .1) (a .dropped) (l .i) (l .inv .1) (search needs) in
     written-all _ _ _ _ _
     (line-more _ _ _ _ _ DROPPED _ w _ _ (c .before .before .put-line2 .ensures .0)
     (rw (c .before .before .before .fields2 .ensures) at (c .before .before .put-line2 .ensures .1)))
