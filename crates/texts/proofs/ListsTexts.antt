@@ -18,17 +18,22 @@ use Rattle.frame.proofs.Answers.{replied-refused, replied-done, then-refused, t
 use Rattle.frame.proofs.Whole.{length-lines, text-replicate}
 use Rattle.texts.specs.Lists.{frameOf, meaningOf, listText, writeList, saidBy}
 use Rattle.texts.proofs.ListsOneToOne.{few-edges, same-edges}
-use Rattle.texts.proofs.Pieces.{few-lines}
+use Rattle.texts.proofs.Pieces.{Written, few-lines}
 
 -- the text from a place on
 module _ (es : List ℕ) (i : ℕ) where
-  pub text-next : i < length es → listText (drop i es) ≡ lineOf KEPT (frameOf (getD es i 0)) ++ listText (drop (i + 1) es)
+  text-next : i < length es → listText (drop i es) ≡ lineOf KEPT (frameOf (getD es i 0)) ++ listText (drop (i + 1) es)
   unfolding listText linesOf
   text-next h = rw (add-one, drop-cons es i 0)
 
   pub text-end : length es ≤ i → listText (drop i es) ≡ []
   unfolding listText linesOf
   text-end h = rw (drop-of-length-le es h)
+
+  -- the line of the edge at a place is left to write
+  pub edge-left : {whole old out : List ℕ} {at : ℕ} → Written whole (listText (drop i es)) old out at → i < length es
+      → Written whole (lineOf KEPT (frameOf (getD es i 0)) ++ listText (drop (i + 1) es)) old out at
+  edge-left w h = rw (text-next h) at w
 
 pub length-list : (es : List ℕ) → length (listText es) ≡ length es * lineLength KEPT
 unfolding listText
@@ -51,19 +56,19 @@ read-done a r xs n p q e =
     let count : n ≡ length (take n xs) = d .2 ∙ ap length same in
     record { is = sym is; count = count; within = omega (arith, length-take n xs) }
 
+-- edges that are not refused, and how many bytes their text has
+pub record Checked (n : ℕ) (es : List ℕ) (size : ℕ) : Type 0 where
+  pub is : writeList n es ≡ answer (listText es)
+  pub measure : size ≡ length (listText es)
+  pub small : size < 2 ^ 32
+
 -- what the reply of a check says of edges that are to be written
 module _ (n : ℕ) (es : List ℕ) (r : Reply) (p : r ≡ replied (meaningOf n (listed (map frameOf es)))) where
   pub check-refused : (k : ℕ) → r ≡ Refused k → writeList n es ≡ refused k
   unfolding writeList
   check-refused k e = then-refused _ _ k (replied-refused _ k (sym e ∙ p))
 
-  -- size: how many bytes their text has
-  pub record Checked (size : ℕ) : Type 0 where
-    pub is : writeList n es ≡ answer (listText es)
-    pub measure : size ≡ length (listText es)
-    pub small : size < 2 ^ 32
-
-  pub check-done : (count line : ℕ) → r ≡ Done count → line ≡ lineLength KEPT → Checked (count * line)
+  pub check-done : (count line : ℕ) → r ≡ Done count → line ≡ lineLength KEPT → Checked n es (count * line)
   unfolding writeList
   check-done count line e l =
       let d = replied-done _ count (sym e ∙ p) in

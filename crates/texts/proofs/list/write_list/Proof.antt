@@ -1,13 +1,22 @@
 -- `texts::list::write_list` meets its contract.
 use mathlib.Core.Path.{_∙_, ap}
+use Prim.Native.Nat.{_*_}
 use native.Mathlib.Omega.{arith}
 use Rattle.frame.specs.declared.reply.Reply.the-variants.{Done}
 use Rattle.frame.proofs.Answers.{refuses, short, fits}
-use Rattle.texts.specs.Lists.{listText, writeList}
-use Rattle.texts.proofs.ListsTexts.{check-refused, check-done}
+use Rattle.texts.specs.Lists.{writeList}
+use Rattle.texts.proofs.ListsTexts.{Checked, check-refused, check-done}
 use borrow.Author.Needs.{needs}
 use Rattle.texts.proofs.list.write_list.Statement.{statement}
 use Rattle.texts.proofs.list.write_list.Tie as tie
+
+-- the entry, from the place where the edges are known to have passed
+abbrev entry : tie.After-length-of → tie.Start
+entry c = c .before .before .before .before .before .before .before
+
+checked : (c : tie.After-length-of) → Checked (entry c .args .vertices) (entry c .args .edges .now) (c .before .before .reply .given .0 .0 * c .length-of .result)
+checked c =
+    check-done (entry c .args .vertices) (entry c .args .edges .now) _ (c .before .before .before .before .check-edges .ensures) _ _ (c .before .before .reply .given .1) (c .length-of .ensures)
 
 check-edges-requires : tie.Need-check-edges-requires
 check-edges-requires c κs = search needs
@@ -31,41 +40,27 @@ length-of-requires : tie.Need-length-of-requires
 length-of-requires c κs = search needs
 
 mul-if1 : tie.Need-mul-if1
-mul-if1 c =
-    let s = c .before .before .before .before .before .before .before in
-    let n = s .args .vertices in
-    let es = s .args .edges .now in
-    let x = check-done n es _ (c .before .before .before .before .check-edges .ensures) _ _ (c .before .before .reply .given .1) (c .length-of .ensures) in
-    omega arith
+mul-if1 c = omega (arith, checked c .small)
 
 returns-2 : tie.Need-returns-2
 returns-2 c =
-    let s = c .before .before .before .before .before .before .before .before in
-    let n = s .args .vertices in
-    let es = s .args .edges .now in
-    let x = check-done n es _ (c .before .before .before .before .before .check-edges .ensures) _ _ (c .before .before .before .reply .given .1) (c .before .length-of .ensures) in
-    short (writeList n es) (s .args .text .now) (listText es) (x .is) (omega arith)
+    let k = c .before in
+    let x = checked k in
+    short (writeList (entry k .args .vertices) (entry k .args .edges .now)) (entry k .args .text .now) _ (x .is) (omega arith)
 
 put-list-requires : tie.Need-put-list-requires
-put-list-requires c κs =
-    let s = c .before .before .before .before .before .before .before .before .before in
-    let n = s .args .vertices in
-    let es = s .args .edges .now in
-    let x = check-done n es _ (c .before .before .before .before .before .before .check-edges .ensures) _ _ (c .before .before .before .before .reply .given .1) (c .before .before .length-of .ensures) in
-    omega arith
+put-list-requires c κs = let x = checked (c .before .before) in omega arith
 
 same-length : tie.Need-same-length
 same-length c = search needs
 
 returns-3 : tie.Need-returns-3
 returns-3 c =
-    let s = c .before .before .before .before .before .before .before .before .before .before .before .before in
-    let n = s .args .vertices in
-    let es = s .args .edges .now in
-    let x = check-done n es _ (c .before .before .before .before .before .before .before .before .before .check-edges .ensures) _ _ (c .before .before .before .before .before .before .before .reply .given .1) (c .before .before .before .before .before .length-of .ensures) in
-    let p = c .before .before .put-list .ensures in
-    let y = fits (writeList n es) (s .args .text .now) (listText es) (x .is) (omega arith) in
-    (ap Done (p .0) ∙ y .0, p .1 ∙ y .1)
+    let p = c .before .before in
+    let k = p .before .before .before in
+    let x = checked k in
+    let y = fits (writeList (entry k .args .vertices) (entry k .args .edges .now)) (entry k .args .text .now) _ (x .is) (omega arith) in
+    (ap Done (p .put-list .ensures .0) ∙ y .0, p .put-list .ensures .1 ∙ y .1)
 
 pub write-list-spec : {M : Type 1} → statement M
 write-list-spec =
