@@ -6,7 +6,7 @@ use lib.ListN.{length, length-set}
 use borrow.Author.Needs.{needs}
 use borrow.Author.Tests.{not-true, not-false}
 use Rattle.frame.specs.Table.{STEP, DROPPED}
-use Rattle.frame.proofs.Runs.{next-read}
+use Rattle.frame.proofs.Runs.{Next, next-read}
 use Rattle.texts.specs.Limits.{fewestVertices, mostVertices}
 use Rattle.texts.proofs.ChainsTaken.{Taken, out-of-limits, taken-none, taken-broken, taken-next, ending-broken, ending-left, ending-done, refused-held, done-held}
 use Rattle.texts.proofs.ChainsTexts.{step-short, dropped-short}
@@ -21,6 +21,24 @@ Inv-loop vertices text v₀ x₀ y₀ steps at₀ i₀ v x y at i =
 
 abbrev μ-loop : tie.MeasureT-loop
 μ-loop vertices text v₀ x₀ y₀ steps at₀ i₀ v x y at i = steps - i
+
+-- the entry, seen from the loop
+abbrev entry : tie.At-loop Inv-loop μ-loop → tie.Start Inv-loop μ-loop
+entry c = c .before .before .before .before .before .before .before
+
+-- the loop, from the place where the frame of a step is taken apart, and from that of the ending
+abbrev at-step : tie.After-f Inv-loop μ-loop → tie.At-loop Inv-loop μ-loop
+at-step c = c .before .before .before .before
+
+abbrev at-ending : tie.After-f2 Inv-loop μ-loop → tie.At-loop Inv-loop μ-loop
+at-ending c = c .before .before .before .before
+
+-- the frames that were read there
+step-read : (c : tie.After-f Inv-loop μ-loop) → let k = at-step c in Next STEP (k .loop .at) (entry k .args .text .now) (c .f .given .0 .0) (c .f .given .0 .1 .0)
+step-read c = let k = at-step c in next-read STEP (k .loop .at) (entry k .args .text .now) _ _ (sym (c .f .given .1) ∙ c .before .before .read-line .ensures)
+
+ending-read : (c : tie.After-f2 Inv-loop μ-loop) → let k = at-ending c in Next DROPPED (k .loop .at) (entry k .args .text .now) (c .f2 .given .0 .0) (c .f2 .given .0 .1 .0)
+ending-read c = let k = at-ending c in next-read DROPPED (k .loop .at) (entry k .args .text .now) _ _ (sym (c .f2 .given .1) ∙ c .before .before .read-line2 .ensures)
 
 vertices-ok-requires : tie.Need-vertices-ok-requires Inv-loop μ-loop
 vertices-ok-requires c κs = search needs
@@ -74,12 +92,7 @@ of-requires : tie.Need-of-requires Inv-loop μ-loop
 of-requires c κs = search needs
 
 cast-v : tie.Need-cast-v Inv-loop μ-loop
-cast-v c =
-    let s = c .before .before .before .before .before .before .before .before .before .before .before .before .before .before in
-    let l = c .before .before .before .before .before .before .before .loop in
-    let g = c .before .before .before .f .given in
-    let x = next-read STEP (l .at) (s .args .text .now) (g .0 .0) (g .0 .1 .0) (sym (g .1) ∙ c .before .before .before .before .before .read-line .ensures) in
-    rw (c .before .of .ensures) (omega (arith, step-short (g .0 .0) (x .fits)))
+cast-v c = let f = c .before .before .before in rw (c .before .of .ensures) (omega (arith, step-short (f .f .given .0 .0) (step-read f .fits)))
 
 mul-v : tie.Need-mul-v Inv-loop μ-loop
 mul-v c = search needs
@@ -88,12 +101,7 @@ slice-write-v : tie.Need-slice-write-v Inv-loop μ-loop
 slice-write-v c = search needs
 
 cast-x : tie.Need-cast-x Inv-loop μ-loop
-cast-x c =
-    let s = c .before .before .before .before .before .before .before .before .before .before .before .before .before .before .before in
-    let l = c .before .before .before .before .before .before .before .before .loop in
-    let g = c .before .before .before .before .f .given in
-    let x = next-read STEP (l .at) (s .args .text .now) (g .0 .0) (g .0 .1 .0) (sym (g .1) ∙ c .before .before .before .before .before .before .read-line .ensures) in
-    rw (c .before .before .of .ensures) (omega (arith, step-short (g .0 .0) (x .fits)))
+cast-x c = let f = c .before .before .before .before in rw (c .before .before .of .ensures) (omega (arith, step-short (f .f .given .0 .0) (step-read f .fits)))
 
 mul-x : tie.Need-mul-x Inv-loop μ-loop
 mul-x c = search needs
@@ -102,12 +110,7 @@ slice-write-x : tie.Need-slice-write-x Inv-loop μ-loop
 slice-write-x c = search needs
 
 cast-y : tie.Need-cast-y Inv-loop μ-loop
-cast-y c =
-    let s = c .before .before .before .before .before .before .before .before .before .before .before .before .before .before .before .before in
-    let l = c .before .before .before .before .before .before .before .before .before .loop in
-    let g = c .before .before .before .before .before .f .given in
-    let x = next-read STEP (l .at) (s .args .text .now) (g .0 .0) (g .0 .1 .0) (sym (g .1) ∙ c .before .before .before .before .before .before .before .read-line .ensures) in
-    rw (c .before .before .before .of .ensures) (omega (arith, step-short (g .0 .0) (x .fits)))
+cast-y c = let f = c .before .before .before .before .before in rw (c .before .before .before .of .ensures) (omega (arith, step-short (f .f .given .0 .0) (step-read f .fits)))
 
 mul-y : tie.Need-mul-y Inv-loop μ-loop
 mul-y c = search needs
@@ -123,17 +126,16 @@ loop-less c = search needs
 
 loop-again : tie.Need-loop-again Inv-loop μ-loop
 loop-again c =
-    let s = c .before .before .before .before .before .before .before .before .before .before .before .before .before .before .before .before in
-    let l = c .before .before .before .before .before .before .before .before .before .loop in
-    let g = c .before .before .before .before .before .f .given in
-    let x = next-read STEP (l .at) (s .args .text .now) (g .0 .0) (g .0 .1 .0) (sym (g .1) ∙ c .before .before .before .before .before .before .before .read-line .ensures) in (
+    let f = c .before .before .before .before .before in
+    let s = entry (at-step f) in
+    let l = at-step f .loop in (
       search needs,
       l .inv .1,
       simp length-set (l .inv .2),
       simp length-set (l .inv .3),
       simp length-set (l .inv .4),
       rw (c .before .before .before .of .ensures)
-          (taken-next _ _ _ _ _ _ _ (l .inv .5) (search needs) (g .0 .0) (g .0 .1 .0) x (omega arith) (omega arith) (omega arith)),
+          (taken-next _ _ _ _ _ _ _ (l .inv .5) (search needs) (f .f .given .0 .0) (f .f .given .0 .1 .0) (step-read f) (omega arith) (omega arith) (omega arith)),
     )
 
 read-line-requires-2 : tie.Need-read-line-requires-2 Inv-loop μ-loop
@@ -171,22 +173,15 @@ same-length-9 c = search needs
 
 returns-4 : tie.Need-returns-4 Inv-loop μ-loop
 returns-4 c =
-    let s = c .before .before .before .before .before .before .before .before .before .before .before .before .before in
-    let l = c .before .before .before .before .before .before .loop in
-    let g = c .before .before .f2 .given in
-    let x = next-read DROPPED (l .at) (s .args .text .now) (g .0 .0) (g .0 .1 .0) (sym (g .1) ∙ c .before .before .before .before .read-line2 .ensures) in
-    refused-held _ _ _ _ _ (ending-left _ _ _ _ _ _ _ (l .inv .5) (omega arith) (g .0 .0) (g .0 .1 .0) x (omega arith))
+    let f = c .before .before in
+    let g = f .f2 .given .0 in
+    refused-held _ _ _ _ _ (ending-left _ _ _ _ _ _ _ (at-ending f .loop .inv .5) (omega arith) (g .0) (g .1 .0) (ending-read f) (omega arith))
 
 of-requires-2 : tie.Need-of-requires-2 Inv-loop μ-loop
 of-requires-2 c κs = search needs
 
 cast-dropped : tie.Need-cast-dropped Inv-loop μ-loop
-cast-dropped c =
-    let s = c .before .before .before .before .before .before .before .before .before .before .before .before .before .before .before in
-    let l = c .before .before .before .before .before .before .before .before .loop in
-    let g = c .before .before .before .before .f2 .given in
-    let x = next-read DROPPED (l .at) (s .args .text .now) (g .0 .0) (g .0 .1 .0) (sym (g .1) ∙ c .before .before .before .before .before .before .read-line2 .ensures) in
-    rw (c .before .of2 .ensures) (omega (arith, dropped-short (g .0 .0) (x .fits)))
+cast-dropped c = let f = c .before .before .before .before in rw (c .before .of2 .ensures) (omega (arith, dropped-short (f .f2 .given .0 .0) (ending-read f .fits)))
 
 same-length-10 : tie.Need-same-length-10 Inv-loop μ-loop
 same-length-10 c = search needs
@@ -199,13 +194,12 @@ same-length-12 c = search needs
 
 returns-5 : tie.Need-returns-5 Inv-loop μ-loop
 returns-5 c =
-    let s = c .before .before .before .before .before .before .before .before .before .before .before .before .before .before .before in
-    let l = c .before .before .before .before .before .before .before .before .loop in
-    let g = c .before .before .before .before .f2 .given in
-    let x = next-read DROPPED (l .at) (s .args .text .now) (g .0 .0) (g .0 .1 .0) (sym (g .1) ∙ c .before .before .before .before .before .before .read-line2 .ensures) in
-    let h : l .i ≡ s .args .vertices - 2 = omega arith in
+    let f = c .before .before .before .before in
+    let g = f .f2 .given .0 in
+    let k = at-ending f in
+    let h : k .loop .i ≡ entry k .args .vertices - 2 = omega arith in
     rw (← h, c .before .of2 .ensures)
-    (done-held _ _ _ _ _ _ _ _ (l .inv .5) (ending-done _ _ _ _ _ _ _ (l .inv .5) h (g .0 .0) (g .0 .1 .0) x (search needs)))
+    (done-held _ _ _ _ _ _ _ _ (k .loop .inv .5) (ending-done _ _ _ _ _ _ _ (k .loop .inv .5) h (g .0) (g .1 .0) (ending-read f) (search needs)))
 
 pub parse-chain-spec : {M : Type 1} → statement M
 parse-chain-spec =
