@@ -16,6 +16,20 @@ Inv-loop low high listed edges first next reached₀ waiting₀ v₀ reached wai
 abbrev μ-loop : tie.MeasureT-loop
 μ-loop low high listed edges first next reached₀ waiting₀ v₀ reached waiting v = work (state reached waiting)
 
+-- the entry, seen from the loop
+abbrev entry : tie.At-loop Inv-loop μ-loop → tie.Start Inv-loop μ-loop
+entry c = c .before .before .before .before .before .before .before .before .before .before .before
+
+-- the loop, from the places where a vertex is taken off, visited, and the next one found
+abbrev at-remove : tie.After-remove Inv-loop μ-loop → tie.At-loop Inv-loop μ-loop
+at-remove c = c .before .before .before
+
+abbrev at-visit : tie.After-visit Inv-loop μ-loop → tie.At-loop Inv-loop μ-loop
+at-visit c = at-remove (c .before .before .before .before .before)
+
+abbrev at-next : tie.After-next-vertex Inv-loop μ-loop → tie.At-loop Inv-loop μ-loop
+at-next c = at-visit (c .before .before .before .before .before)
+
 slice-aggregate-enter : tie.Need-slice-aggregate-enter Inv-loop μ-loop
 slice-aggregate-enter c = refl
 
@@ -39,14 +53,14 @@ mul-start : tie.Need-mul-start Inv-loop μ-loop
 mul-start c = omega (arith, c .before .before .before .loop-test .taken)
 
 shared-slice-read-start : tie.Need-shared-slice-read-start Inv-loop μ-loop
-shared-slice-read-start c = omega (arith, c .before .before .before .before .loop-test .taken, c .before .before .before .before .before .before .before .before .before .before .before .before .before .before .before .before .pre .1)
+shared-slice-read-start c = let k = at-remove (c .before .before) in omega (arith, c .before .before .before .before .loop-test .taken, entry k .pre .1)
 
 cast-start : tie.Need-cast-start Inv-loop μ-loop
 cast-start c = omega (arith, c .shared-slice-known6 .given (c .before .before .before .before .before .loop .v))
 
 -- the sets keep their words
-removed-sized : (c : tie.After-remove Inv-loop μ-loop) → Sized (state (c .before .before .before .loop .reached) (c .remove .last .0))
-removed-sized c = let sized = c .before .before .before .loop .inv .sized in record { reached = sized .reached; waiting = c .remove .kept .0 ∙ sized .waiting }
+removed-sized : (c : tie.After-remove Inv-loop μ-loop) → Sized (state (at-remove c .loop .reached) (c .remove .last .0))
+removed-sized c = let sized = at-remove c .loop .inv .sized in record { reached = sized .reached; waiting = c .remove .kept .0 ∙ sized .waiting }
 
 visited-sized : (c : tie.After-visit Inv-loop μ-loop) → Sized (state (c .visit .last .1 .1 .1 .1 .1 .1 .0) (c .visit .last .1 .1 .1 .1 .1 .1 .1 .0))
 visited-sized c = let sized = removed-sized (c .before .before .before .before .before) in record { reached = c .visit .kept .1 .1 .1 .1 .1 .1 .0 ∙ sized .reached; waiting = c .visit .kept .1 .1 .1 .1 .1 .1 .1 .0 ∙ sized .waiting }
@@ -58,7 +72,7 @@ slice-aggregate-visit-2 : tie.Need-slice-aggregate-visit-2 Inv-loop μ-loop
 slice-aggregate-visit-2 c = sym (removed-sized (c .before .before .before .before) .waiting)
 
 visit-requires : tie.Need-visit-requires Inv-loop μ-loop
-visit-requires c κs = (c .before .before .before .before .before .before .before .before .before .before .before .before .before .before .before .before .before .before .pre .0, removed-sized (c .before .before .before .before))
+visit-requires c κs = let r = c .before .before .before .before in (entry (at-remove r) .pre .0, removed-sized r)
 
 slice-aggregate-next-vertex : tie.Need-slice-aggregate-next-vertex Inv-loop μ-loop
 slice-aggregate-next-vertex c = sym (visited-sized (c .before .before .before) .reached)
@@ -67,18 +81,18 @@ slice-aggregate-next-vertex-2 : tie.Need-slice-aggregate-next-vertex-2 Inv-loop 
 slice-aggregate-next-vertex-2 c = sym (visited-sized (c .before .before .before .before) .waiting)
 
 next-vertex-requires : tie.Need-next-vertex-requires Inv-loop μ-loop
-next-vertex-requires c κs = (c .before .before .before .before .before .before .before .before .before .before .before .before .before .before .before .before .before .before .before .before .before .before .before .pre .0, visited-sized (c .before .before .before .before))
+next-vertex-requires c κs = let v = c .before .before .before .before in (entry (at-visit v) .pre .0, visited-sized v)
 
 -- the columns' elements are bytes
-low-byte : (c : tie.At-loop Inv-loop μ-loop) (e : ℕ) → getD (c .before .before .before .before .before .before .before .before .before .before .before .args .low .now) e 0 < 256
+low-byte : (c : tie.At-loop Inv-loop μ-loop) (e : ℕ) → getD (entry c .args .low .now) e 0 < 256
 low-byte c e = omega (arith, c .before .before .before .before .before .before .before .before .before .before .shared-slice-known .given e)
 
-high-byte : (c : tie.At-loop Inv-loop μ-loop) (e : ℕ) → getD (c .before .before .before .before .before .before .before .before .before .before .before .args .high .now) e 0 < 256
+high-byte : (c : tie.At-loop Inv-loop μ-loop) (e : ℕ) → getD (entry c .args .high .now) e 0 < 256
 high-byte c e = omega (arith, c .before .before .before .before .before .before .before .before .before .shared-slice-known2 .given e)
 
 visit-passes : (c : tie.After-visit Inv-loop μ-loop)
-    → let at = c .before .before .before .before .before .before .before .before in
-    let a = at .before .before .before .before .before .before .before .before .before .before .before .args in
+    → let at = at-visit c in
+    let a = entry at .args in
     Passes (a .low .now) (a .high .now) (a .listed .now) (a .edges)
     (taken (state (at .loop .reached) (at .loop .waiting)) (at .loop .v)) (state (c .visit .last .1 .1 .1 .1 .1 .1 .0) (c .visit .last .1 .1 .1 .1 .1 .1 .1 .0))
 unfolding taken
@@ -86,12 +100,12 @@ visit-passes c = rw (c .before .before .before .before .before .remove .ensures)
 
 -- a whole turn
 turned : (c : tie.After-next-vertex Inv-loop μ-loop)
-    → let at = c .before .before .before .before .before .before .before .before .before .before .before .before .before in
-    let a = at .before .before .before .before .before .before .before .before .before .before .before .args in
+    → let at = at-next c in
+    let a = entry at .args in
     let after = state (c .next-vertex .last .1 .1 .1 .1 .0) (c .next-vertex .last .1 .1 .1 .1 .1 .0) in
     Searching (a .low .now) (a .high .now) (a .listed .now) (a .edges) after (c .next-vertex .result) × (work after < work (state (at .loop .reached) (at .loop .waiting)))
 turned c =
-    let at = c .before .before .before .before .before .before .before .before .before .before .before .before .before in
+    let at = at-next c in
     turn _ _ _ _ (low-byte at) (high-byte at) _ _ _ (at .loop .inv) (c .before .before .before .before .before .before .before .before .before .before .before .before .loop-test .taken)
     (visit-passes (c .before .before .before .before .before)) _ _ (c .next-vertex .ensures .1) (c .next-vertex .ensures .0)
 

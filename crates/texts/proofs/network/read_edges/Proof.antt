@@ -18,6 +18,16 @@ Inv-loop text first vertices low₀ high₀ cost₀ at₀ i₀ low high cost at 
 abbrev μ-loop : tie.MeasureT-loop
 μ-loop text first vertices low₀ high₀ cost₀ at₀ i₀ low high cost at i = 2 * vertices - i
 
+-- the entry, seen from the loop, and the loop from the places where an edge is read and where it has passed
+abbrev entry : tie.At-loop Inv-loop μ-loop → tie.Start Inv-loop μ-loop
+entry c = c .before .before .before .before
+
+abbrev at-read : tie.After-known-told Inv-loop μ-loop → tie.At-loop Inv-loop μ-loop
+at-read c = c .before .before .before .before .before
+
+abbrev at-passed : tie.Else1 Inv-loop μ-loop → tie.At-loop Inv-loop μ-loop
+at-passed c = at-read (c .before .before .before)
+
 loop-holds : tie.Need-loop-holds Inv-loop μ-loop
 loop-holds c = reading-none
 
@@ -49,9 +59,7 @@ returns c =
 
 -- the line that was read
 line : (c : tie.After-known-told Inv-loop μ-loop) →
-    Next EDGE (c .before .before .before .before .before .loop .at)
-    (c .before .before .before .before .before .before .before .before .before .args .text .now) (c .before .f .given .0 .0)
-    (c .before .f .given .0 .1 .0)
+    Next EDGE (at-read c .loop .at) (entry (at-read c) .args .text .now) (c .before .f .given .0 .0) (c .before .f .given .0 .1 .0)
 line c = next-read _ _ _ _ _ (sym (c .before .f .given .1) ∙ c .before .before .before .read-line .ensures)
 
 of-requires : tie.Need-of-requires Inv-loop μ-loop
@@ -72,39 +80,36 @@ same-length-6 c = search needs
 returns-2 : tie.Need-returns-2 Inv-loop μ-loop
 returns-2 c =
     let k = c .before .edge-refusal .ensures in
-    rw k
-    (reading-refused (c .before .before .before .before .before .before .before .before .loop .inv) (search needs) (line (c .before .before .before))
-    (c .before .before .of .ensures) (rw k at (c .if1 .taken)))
+    let r = c .before .before .before in
+    rw k (reading-refused (at-read r .loop .inv) (search needs) (line r) (c .before .before .of .ensures) (rw k at (c .if1 .taken)))
 
 -- the edge has passed
-passed : (c : tie.Else1 Inv-loop μ-loop) →
-    EdgePassed (c .before .before .before .before .before .before .before .before .before .before .before .before .args .vertices)
-    (c .before .before .before .before .before .before .before .before .loop .i) (c .before .before .of .result)
+passed : (c : tie.Else1 Inv-loop μ-loop) → EdgePassed (entry (at-passed c) .args .vertices) (at-passed c .loop .i) (c .before .before .of .result)
 passed c = edge-passed _ _ _ (rw (c .before .edge-refusal .ensures) at (c .if1 .left))
 
 cast-low : tie.Need-cast-low Inv-loop μ-loop
-cast-low c = let p = passed (c .before) in omega (arith, c .before .before .before .before .before .before .before .before .before .before .before .before .before .pre .few)
+cast-low c = let p = passed (c .before) in omega (arith, entry (at-passed (c .before)) .pre .few)
 
 mul-low : tie.Need-mul-low Inv-loop μ-loop
 mul-low c = search needs
 
 slice-write-low : tie.Need-slice-write-low Inv-loop μ-loop
-slice-write-low c = omega (arith, c .before .before .before .before .before .before .before .before .before .before .before .before .before .pre .low-room)
+slice-write-low c = omega (arith, entry (at-passed (c .before)) .pre .low-room)
 
 cast-high : tie.Need-cast-high Inv-loop μ-loop
-cast-high c = let p = passed (c .before .before) in omega (arith, c .before .before .before .before .before .before .before .before .before .before .before .before .before .before .pre .few)
+cast-high c = let p = passed (c .before .before) in omega (arith, entry (at-passed (c .before .before)) .pre .few)
 
 mul-high : tie.Need-mul-high Inv-loop μ-loop
 mul-high c = search needs
 
 slice-write-high : tie.Need-slice-write-high Inv-loop μ-loop
-slice-write-high c = omega (arith, c .before .before .before .before .before .before .before .before .before .before .before .before .before .before .pre .high-room)
+slice-write-high c = omega (arith, entry (at-passed (c .before .before)) .pre .high-room)
 
 mul-c : tie.Need-mul-c Inv-loop μ-loop
 mul-c c = search needs
 
 slice-set-from-c : tie.Need-slice-set-from-c Inv-loop μ-loop
-slice-set-from-c c = omega (arith, c .before .before .before .before .before .before .before .before .before .before .before .before .before .before .before .pre .cost-room)
+slice-set-from-c c = omega (arith, entry (at-passed (c .before .before .before)) .pre .cost-room)
 
 add-i : tie.Need-add-i Inv-loop μ-loop
 add-i c = search needs
@@ -115,10 +120,10 @@ loop-less c = search needs
 loop-again : tie.Need-loop-again Inv-loop μ-loop
 loop-again c =
     let e = c .before .before .before in
-    let l = e .before .before .before .before .before .before .before .before in
+    let l = at-passed e in
     rw (toZ-ofZ (record { sfits = c .struct-told .given .1 .1 .1 .0 .1 }))
     (reading-next (l .loop .inv) (search needs) (line (e .before .before .before)) (e .before .before .of .ensures)
-    (l .before .before .before .before .pre) (rw (e .before .edge-refusal .ensures) at (e .if1 .left)))
+    (entry l .pre) (rw (e .before .edge-refusal .ensures) at (e .if1 .left)))
 
 same-length-7 : tie.Need-same-length-7 Inv-loop μ-loop
 same-length-7 c = search needs
