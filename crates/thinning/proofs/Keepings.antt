@@ -29,8 +29,8 @@ module _ {g : Network} {K : List Bool} (k : Keeping g K) where
     unfolding keptOf
     kept-text =
         ap₂ (keptText (keptEdges (g .edges) K))
-        (read-back kept (omega (arith, ap natAbs ek, kept-small g K (k .light))) ∙ ek)
-        (read-back unreserved (omega (arith, ap natAbs eu, reserved-small g (k .edge-room) (k .reserved-room) (k .light))) ∙ eu)
+        (read-back kept (omega (arith, ap natAbs ek, kept-small g (k .light) K)) ∙ ek)
+        (read-back unreserved (omega (arith, ap natAbs eu, reserved-small g (k .light))) ∙ eu)
 
     -- and what the writer answers for the marks of the network's edges
     pub kept-written : writeKept (take (g .edges) K) (toZ w64 (ofZ w64 kept)) (toZ w64 (ofZ w64 unreserved)) ≡ answer (keptOf g K)

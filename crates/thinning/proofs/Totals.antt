@@ -16,7 +16,6 @@ use mir.Facts.{toZ-ofZ}
 use Rattle.graph.specs.Fold.{fold, sumℤ}
 use Rattle.graph.specs.Network.{costOf, costOver, kept, keptCost, allButReserved}
 use Rattle.graph.specs.Sound.{weight, Light}
-use Rattle.graph.specs.State.{edgeLimit}
 use Rattle.graph.specs.declared.Network.{Network}
 use Rattle.graph.proofs.Bools.{eqb-self, eqb-no}
 use Rattle.graph.proofs.Sums.{fold-more, fold-ext, sum-le, sum-fewer}
@@ -41,13 +40,19 @@ module _ (g : Network) (K : List Bool) where
   pub among-unmarked : (e : ℕ) → kept K e ≡ false → costAmong g K (e + 1) ≡ costAmong g K e
   among-unmarked e h = fold-more _+ℤ_ (pos 0) e (λ i. cond (kept K i) (costOf g i) (pos 0)) ∙ rw h (plus-zero (costAmong g K e))
 
-  pub among-small : (e : ℕ) → e ≤ g .edges → Light g → natAbs (costAmong g K e) < 2 ^ 62
+  pub among-all : costAmong g K (g .edges) ≡ keptCost g K
+  unfolding costOver
+  among-all = refl
+
+-- the cost of any of the first edges is small
+module _ (g : Network) (light : Light g) where
+  over-small : (p : ℕ → Bool) (e : ℕ) → e ≤ g .edges → natAbs (sumℤ e (λ i. cond (p i) (costOf g i) (pos 0))) < 2 ^ 62
   unfolding weight
-  among-small e l h =
+  over-small p e l =
       omega (
         arith,
-        sumℤ-size e (λ i. cond (kept K i) (costOf g i) (pos 0)),
-        sum-le e (λ i. natAbs (cond (kept K i) (costOf g i) (pos 0))) (λ i. natAbs (costOf g i)) (λ i k. less (kept K i) (costOf g i)),
+        sumℤ-size e (λ i. cond (p i) (costOf g i) (pos 0)),
+        sum-le e (λ i. natAbs (cond (p i) (costOf g i) (pos 0))) (λ i. natAbs (costOf g i)) (λ i k. less (p i) (costOf g i)),
         sum-fewer e (g .edges) (λ i. natAbs (costOf g i)) l,
       )
     where
@@ -55,28 +60,28 @@ module _ (g : Network) (K : List Bool) where
       less true c = omega arith
       less false c = omega arith
 
-  pub among-all : costAmong g K (g .edges) ≡ keptCost g K
+  pub among-small : (K : List Bool) (e : ℕ) → e ≤ g .edges → natAbs (costAmong g K e) < 2 ^ 62
+  among-small K = over-small (kept K)
+
+  pub kept-small : (K : List Bool) → natAbs (keptCost g K) < 2 ^ 62
   unfolding costOver
-  among-all = refl
+  kept-small K = over-small (kept K) (g .edges) (omega arith)
 
-  pub kept-small : Light g → natAbs (keptCost g K) < 2 ^ 62
-  kept-small h = omega (arith, ap natAbs among-all, among-small (g .edges) (omega arith) h)
+  pub reserved-small : natAbs (allButReserved g) < 2 ^ 62
+  unfolding costOver
+  reserved-small = over-small (λ e. not (eqb e (g .reserved))) (g .edges) (omega arith)
 
--- all marks but the reserved one
-pub all-marks : (g : Network) → g .edges ≤ edgeLimit → g .reserved < edgeLimit
-    → keptCost g (set (replicate edgeLimit true) (g .reserved) false) ≡ allButReserved g
+-- n marks but the reserved one
+pub all-marks : (n : ℕ) (g : Network) → g .edges ≤ n → g .reserved < n → keptCost g (set (replicate n true) (g .reserved) false) ≡ allButReserved g
 unfolding costOver
-all-marks g room r =
+all-marks n g room r =
     fold-ext _+ℤ_ (pos 0) (g .edges) _ _ (λ e l. ap (λ t. cond t (costOf g e) (pos 0)) (mark e (omega arith)))
   where
-    mark : (e : ℕ) → e < edgeLimit → kept (set (replicate edgeLimit true) (g .reserved) false) e ≡ not (eqb e (g .reserved))
+    mark : (e : ℕ) → e < n → kept (set (replicate n true) (g .reserved) false) e ≡ not (eqb e (g .reserved))
     mark e l = elim (ℕ-discrete e (g .reserved)) [
-      | yes q ↦ rw (q, eqb-self (g .reserved)) (getD-set-same (replicate edgeLimit true) (g .reserved) false false (rw length-replicate r))
-      | no q ↦ rw (eqb-no q) (getD-set-other (replicate edgeLimit true) (g .reserved) e false false q ∙ getD-replicate edgeLimit e true false l)
+      | yes q ↦ rw (q, eqb-self (g .reserved)) (getD-set-same (replicate n true) (g .reserved) false false (rw length-replicate r))
+      | no q ↦ rw (eqb-no q) (getD-set-other (replicate n true) (g .reserved) e false false q ∙ getD-replicate n e true false l)
     ]
-
-pub reserved-small : (g : Network) → g .edges ≤ edgeLimit → g .reserved < edgeLimit → Light g → natAbs (allButReserved g) < 2 ^ 62
-reserved-small g room r h = omega (arith, ap natAbs (all-marks g room r), kept-small g (set (replicate edgeLimit true) (g .reserved) false) h)
 
 -- ── sums that fit ──
 

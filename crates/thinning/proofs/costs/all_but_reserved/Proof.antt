@@ -21,7 +21,7 @@ returns c =
     let a = c .before in
     let g = a .args .network in
     let e = c .kept-cost .ensures in
-    read-back (c .kept-cost .result) (omega (arith, ap natAbs e, kept-small g (set (replicate edgeLimit true) (g .reserved) false) (a .pre .0))) ∙ e ∙ all-marks g (a .pre .1) (a .pre .2)
+    read-back (c .kept-cost .result) (omega (arith, ap natAbs e, kept-small g (a .pre .0) (set (replicate edgeLimit true) (g .reserved) false))) ∙ e ∙ all-marks edgeLimit g (a .pre .1) (a .pre .2)
 
 pub all-but-reserved-spec : {M : Type 1} → statement M
 all-but-reserved-spec = tie.close (tie.spec array-write-marks kept-cost-requires returns)

@@ -34,7 +34,7 @@ add-requires c κs =
     let l = c .before .before .before .before in
     let a = l .before in
     let g = a .args .t1 in (
-      omega (arith, ap natAbs (l .loop .inv .1), among-small g (a .args .t2 .marks) (l .loop .e) (l .loop .inv .0) (a .pre .0)),
+      omega (arith, ap natAbs (l .loop .inv .1), among-small g (a .pre .0) (a .args .t2 .marks) (l .loop .e) (l .loop .inv .0)),
       omega (arith, ap natAbs (cost-kept g (a .pre .0) (l .loop .e) (omega arith)), cost-below g (a .pre .0) (l .loop .e) (omega arith)),
     )
 
@@ -56,7 +56,7 @@ loop-again c =
           (λ w.
           let sum : w .2 .result ≡ costAmong g K (e + 1) =
           w .2 .ensures ∙ ap₂ _+ℤ_ (l .loop .inv .1) (cost-kept g (a .pre .0) e (omega arith)) ∙ sym (among-marked g K e (w .0 .taken)) in
-          ap (toZ w64) (w .3) ∙ read-back (w .2 .result) (omega (arith, ap natAbs sum, among-small g K (e + 1) (omega arith) (a .pre .0))) ∙ sum)
+          ap (toZ w64) (w .3) ∙ read-back (w .2 .result) (omega (arith, ap natAbs sum, among-small g (a .pre .0) K (e + 1) (omega arith))) ∙ sum)
           (λ w. ap (toZ w64) (w .1) ∙ l .loop .inv .1 ∙ sym (among-unmarked g K e (w .0 .left)))
           (c .if1 .came),
     )
