@@ -2,7 +2,7 @@
 -- Assumes nothing.
 use mathlib.Core.Path.{_≡_, refl, _∙_, ap}
 use mathlib.Core.Bool.{Bool, true, false, cond}
-use mathlib.Core.List.{List, [], _∷_, _++_, map}
+use mathlib.Core.List.{List, [], _∷_, _++_}
 use Prim.Native.Nat.{ℕ, zero, suc, _+_, _*_, _-_, _≤_, _<_}
 use native.Mathlib.Omega.{arith}
 use native.Mathlib.Numerals.{add-one}
@@ -10,15 +10,15 @@ use native.Mathlib.Nat.{sub-zero}
 use lib.ListN.{length, take, length-append}
 use lib.Seq.{length-take-le, getD-take}
 use lib.IntN.{ℤ}
-use borrow.Author.Tests.{le-leb, lt-leb, lt-ltb}
-use Rattle.frame.specs.Answer.{refused, answer, andThen, over}
+use borrow.Author.Tests.{le-leb, lt-leb}
+use Rattle.frame.specs.Answer.{refused, answer, over}
 use Rattle.frame.specs.Table.{KEPT, COSTS, REFUSAL, bytesOf, padded, total, placeOf, startOf, lineLength}
 use Rattle.frame.specs.Line.{lineOf}
-use Rattle.frame.specs.Frames.{listed, linesOf}
+use Rattle.frame.specs.Frames.{linesOf}
 use Rattle.frame.specs.Kinds.{ofCosts, ofRefusal}
 use Rattle.frame.proofs.Lines.{length-line}
-use Rattle.texts.specs.Limits.{mostEdges, verticesOk}
-use Rattle.texts.specs.Lists.{frameOf, risingFrom, meaningOf, listText, writeList}
+use Rattle.texts.specs.Limits.{mostEdges}
+use Rattle.texts.specs.Lists.{frameOf, listText}
 use Rattle.texts.specs.Kept.{pick, isKept, keptEdges, keptText, keptLength, writeKept, refusalText}
 use Rattle.texts.proofs.ListsTexts.{length-list}
 use Rattle.texts.proofs.Pieces.{Written, written-last, written-front}
@@ -106,22 +106,3 @@ bytes-of-kept es kept unreserved = length-kept es kept unreserved ∙ omega arit
 pub bytes-of-refusal : (k : ℕ) → length (refusalText k) ≡ 5
 unfolding refusalText lineLength startOf placeOf bytesOf padded total
 bytes-of-refusal k = length-line REFUSAL (ofRefusal (record { number = k }))
-
--- the kept edges of a network are an audit list: they are its edges, and rise
-module _ (n : ℕ) (p : ℕ → Bool) where
-  pick-rises : (m k least : ℕ) → least ≤ k → k + m ≤ 2 * n → risingFrom n least (listed (map frameOf (pick m k p))) ≡ answer (pick m k p)
-  unfolding pick risingFrom listed andThen
-  pick-rises zero k least h l = refl
-  pick-rises (suc m) k least h l = go (p k) (pick-rises m (suc k))
-    where
-      go : (b : Bool)
-          → ((low : ℕ) → low ≤ suc k → suc k + m ≤ 2 * n → risingFrom n low (listed (map frameOf (pick m (suc k) p))) ≡ answer (pick m (suc k) p))
-          → risingFrom n least (listed (map frameOf (cond b (k ∷ pick m (suc k) p) (pick m (suc k) p))))
-          ≡ answer (cond b (k ∷ pick m (suc k) p) (pick m (suc k) p))
-      go true r = rw (le-leb least k h, lt-ltb k (2 * n) (omega arith), r (suc k) (omega arith) (omega arith))
-      go false r = r least (omega arith) (omega arith)
-
-pub kept-rises : (n : ℕ) (marks : List Bool) → verticesOk n ≡ true
-    → writeList n (keptEdges (2 * n) marks) ≡ answer (listText (keptEdges (2 * n) marks))
-unfolding writeList meaningOf andThen keptEdges
-kept-rises n marks h = rw (h, pick-rises n (isKept marks) (2 * n) 0 0 (omega arith) (omega arith))
