@@ -1,26 +1,26 @@
 -- Two vertices are left: the last three edges, and what the ending keeps.
 use mathlib.Core.Path.{_≡_, refl, sym, _∙_, ap}
-use mathlib.Core.Logic.{_≢_, _⊎_, inl, inr, ⊎-elim}
+use mathlib.Core.Logic.{_≢_, inl, inr, ⊎-elim}
 use mathlib.Core.Bool.{Bool, true, false, not, cond, _&&_, or-true}
 use mathlib.Core.List.{List, [], _∷_}
-use Prim.Native.Nat.{ℕ, _+_, _*_, _≤_, _<_}
+use Prim.Native.Nat.{ℕ, _+_, _<_}
 use native.Mathlib.Omega.{arith}
 use native.Mathlib.Decide.{ℕ-discrete}
 use lib.Dec.{eqb}
-use lib.ListN.{length}
 use lib.IntN.{ℤ, pos, _*ℤ_}
 use lib.Signed.{leZ, _≤ℤ_}
-use Rattle.graph.specs.Fold.{without, among}
+use Rattle.graph.specs.Fold.{among}
 use Rattle.graph.specs.Network.{lowEnd, highEnd, costOf, here, touches, endsAt, costOver, kept, keptCost, allButReserved}
 use Rattle.graph.specs.Cut.{Side, differ, crosses, crossingsOf, Divides, EveryCutOf}
 use Rattle.graph.specs.Split.{isPartner, partners}
-use Rattle.graph.specs.Chain.{lastEdges, dearest, endRefusal, marks, endKept}
+use Rattle.graph.specs.Chain.{lastEdges, dearest, LastEdge, EndingByRule}
+use Rattle.graph.specs.Back.{EndKeeps}
 use Rattle.graph.specs.Sound.{Sound}
 use Rattle.graph.specs.Condition.{Good}
 use Rattle.graph.specs.declared.Network.{Network}
 use Rattle.graph.proofs.Bools.{never, eqb-self, eqb-no, and-left, and-right}
-use Rattle.graph.proofs.Sums.{sum-change-four, sum-zeros, tabulate-length, tabulate-at, pick-ext}
-use Rattle.graph.proofs.Integers.{P, N, times-P, times-N, le-is, is-≤ℤ, sumℤ-four}
+use Rattle.graph.proofs.Sums.{sum-change-four, sum-zeros, pick-ext, pick-among, among-pick}
+use Rattle.graph.proofs.Integers.{P, N, times-P, times-N, ≤ℤ-is, is-≤ℤ, sumℤ-four}
 use Rattle.graph.proofs.Stars.{Runs, runs-crosses, Star}
 use Rattle.graph.proofs.Partners.{another, no-third, touch-ends, touches-at, touches-ends, no-loop, runs-here, three-partners, star, Chosen, chosen, among-without}
 
@@ -32,6 +32,23 @@ dearest-at g d e (k ∷ l) h m = elim (ℕ-discrete e k) [
   | yes q ↦ rw q (and-left _ _ h)
   | no q ↦ dearest-at g d e l (and-right (leZ (costOf g k) (costOf g d)) _ h) (rw (eqb-no q) at m)
 ]
+
+-- the last three as a list and as a rule
+module _ (g : Network) where
+  pub last-of : (e : ℕ) → among e (lastEdges g) ≡ true → LastEdge g e
+  unfolding lastEdges
+  last-of e h =
+      let w = pick-among (g .edges) 0 (λ e. here g (lowEnd g e) && not (eqb e (g .reserved))) e h in
+      record {
+        number = omega (arith, w .1);
+        not-retired = and-left (here g (lowEnd g e)) (not (eqb e (g .reserved))) (w .2);
+        not-reserved = λ q. never (rw (q, eqb-self) at (and-right (here g (lowEnd g e)) (not (eqb e (g .reserved))) (w .2)));
+      }
+
+  pub of-last : (e : ℕ) → LastEdge g e → among e (lastEdges g) ≡ true
+  unfolding lastEdges
+  of-last e p =
+      among-pick (g .edges) 0 (λ e. here g (lowEnd g e) && not (eqb e (g .reserved))) e (omega arith) (omega (arith, p .number)) (rw (p .not-retired, eqb-no (p .not-reserved)))
 
 module _ {g : Network} (sound : Sound g) (two : g .remaining ≡ 2) where
   -- the two vertices: the low end of the reserved edge, and the other one
@@ -119,37 +136,43 @@ module _ {g : Network} (sound : Sound g) (two : g .remaining ≡ 2) where
       go false q = q
       go true q = absurd (omega (arith, h, touch-ends g v e q))
 
-  module _ {d u : ℕ} (w : Chosen g v u d) where
+  -- d is dropped, and K are the marks of the other two
+  module _ {d u : ℕ} (w : Chosen g v u d) {K : List Bool} (k : EndKeeps g d K) where
     s : Star g v d (w .y) (w .z) u (w .a) (w .b) (w .c)
     s = w .at
 
     far-is : {e f : ℕ} → e < g .edges → Runs g e v f → f ≢ v → f ≡ o
     far-is {f = f} l t ne = is-o f (runs-here sound l t v-here) ne
 
-    kept-at : (e : ℕ) → e < g .edges → kept (endKept g d) e ≡ among e (w .y ∷ w .z ∷ [])
-    unfolding endKept marks
-    kept-at e l = tabulate-at (length (g .low)) (λ e. among e (without d (lastEdges g))) false e (omega (arith, sound .formed .low-room)) ∙ rw (last-is, w .others)
+    -- of the last three, all but d are y and z
+    among-two : (e : ℕ) → e ≢ d → among e (lastEdges g) ≡ among e (w .y ∷ w .z ∷ [])
+    among-two e ne = ap (among e) last-is ∙ sym (among-without d e ne (partners g v)) ∙ ap (among e) (w .others)
 
-    kept-reserved : kept (endKept g d) (g .reserved) ≡ false
-    unfolding s
-    kept-reserved = kept-at (g .reserved) (s .four .r<) ∙ unfold among in rw (eqb-no (s .four .ry), eqb-no (s .four .rz))
+    y-last : LastEdge g (w .y)
+    y-last = last-of g (w .y) (among-two (w .y) (λ e. w .at .four .xy (sym e)) ∙ unfold among in rw eqb-self)
 
-    kept-dropped : kept (endKept g d) d ≡ false
-    kept-dropped = kept-at d (s .four .x<) ∙ unfold among in rw (eqb-no (s .four .xy), eqb-no (s .four .xz))
+    z-last : LastEdge g (w .z)
+    z-last = last-of g (w .z) (among-two (w .z) (λ e. w .at .four .xz (sym e)) ∙ unfold among in rw (eqb-self (w .z), or-true))
 
-    kept-y : kept (endKept g d) (w .y) ≡ true
-    kept-y = kept-at (w .y) (s .four .y<) ∙ unfold among in rw eqb-self
+    kept-reserved : kept K (g .reserved) ≡ false
+    kept-reserved = k .rest (g .reserved) (λ p. p .not-reserved refl) (w .at .four .rx)
 
-    kept-z : kept (endKept g d) (w .z) ≡ true
-    kept-z = kept-at (w .z) (s .four .z<) ∙ unfold among in rw (eqb-self (w .z), or-true)
+    kept-y : kept K (w .y) ≡ true
+    kept-y = k .others (w .y) y-last (λ e. w .at .four .xy (sym e))
 
-    kept-other : (e : ℕ) → e < g .edges → e ≢ w .y → e ≢ w .z → kept (endKept g d) e ≡ false
-    kept-other e l ny nz = kept-at e l ∙ unfold among in rw (eqb-no ny, eqb-no nz)
+    kept-z : kept K (w .z) ≡ true
+    kept-z = k .others (w .z) z-last (λ e. w .at .four .xz (sym e))
 
-    end-twice : EveryCutOf 2 g (kept (endKept g d))
-    unfolding crossingsOf
+    kept-other : (e : ℕ) → e ≢ d → e ≢ w .y → e ≢ w .z → kept K e ≡ false
+    kept-other e nd ny nz = k .rest e (λ p. never (out ∙ of-last g e p)) nd
+      where
+        out : false ≡ among e (lastEdges g)
+        out = sym (among-two e nd ∙ unfold among in rw (eqb-no ny, eqb-no nz))
+
+    end-twice : EveryCutOf 2 g (kept K)
+    unfolding crossingsOf s
     end-twice S D =
-        let p : ℕ → ℕ = λ e. cond (kept (endKept g d) e) (crosses g S e) 0 in
+        let p : ℕ → ℕ = λ e. cond (kept K e) (crosses g S e) 0 in
         let one = parted S D in
         let py : p (w .y) ≡ 1 = rw (kept-y, runs-crosses S (s .to-b), far-is (s .four .y<) (s .to-b) (s .b≢)) one in
         let pz : p (w .z) ≡ 1 = rw (kept-z, runs-crosses S (s .to-c), far-is (s .four .z<) (s .to-c) (s .c≢)) one in
@@ -158,14 +181,14 @@ module _ {g : Network} (sound : Sound g) (two : g .remaining ≡ 2) where
           sum-zeros (g .edges),
           py,
           pz,
-          sum-change-four (s .four) p (λ e. 0) (λ e l nr nx ny nz. rw (kept-other e l ny nz)),
+          sum-change-four (s .four) p (λ e. 0) (λ e l nr nx ny nz. rw (kept-other e nx ny nz)),
         )
 
-    kept-is : P (keptCost g (endKept g d)) + (N (costOf g (w .y)) + N (costOf g (w .z))) ≡ N (keptCost g (endKept g d)) + (P (costOf g (w .y)) + P (costOf g (w .z)))
+    kept-is : P (keptCost g K) + (N (costOf g (w .y)) + N (costOf g (w .z))) ≡ N (keptCost g K) + (P (costOf g (w .y)) + P (costOf g (w .z)))
     unfolding costOver P N
     kept-is =
-        let p : ℕ → ℤ = λ e. cond (kept (endKept g d) e) (costOf g e) (pos 0) in
-        let z = sumℤ-four (s .four) p (λ e l nr nx ny nz. rw (kept-other e l ny nz)) (pos 0) (pos 0) (costOf g (w .y)) (costOf g (w .z)) (rw kept-reserved) (rw kept-dropped) (rw kept-y) (rw kept-z) in
+        let p : ℕ → ℤ = λ e. cond (kept K e) (costOf g e) (pos 0) in
+        let z = sumℤ-four (s .four) p (λ e l nr nx ny nz. rw (kept-other e nx ny nz)) (pos 0) (pos 0) (costOf g (w .y)) (costOf g (w .z)) (rw kept-reserved) (rw (k .dropped)) (rw kept-y) (rw kept-z) in
         omega (arith, z)
 
     all-is : P (allButReserved g) + (N (costOf g d) + N (costOf g (w .y)) + N (costOf g (w .z))) ≡ N (allButReserved g) + (P (costOf g d) + P (costOf g (w .y)) + P (costOf g (w .z)))
@@ -177,10 +200,10 @@ module _ {g : Network} (sound : Sound g) (two : g .remaining ≡ 2) where
         let z = sumℤ-four q p (λ e l nr nx ny nz. rw (eqb-no nr) (costless e l (s .rest e l nr nx ny nz))) (pos 0) (costOf g d) (costOf g (w .y)) (costOf g (w .z)) (rw (eqb-self (g .reserved))) (apart d (q .rx)) (apart (w .y) (q .ry)) (apart (w .z) (q .rz)) in
         omega (arith, z)
 
-    end-ratio : leZ (costOf g (w .y)) (costOf g d) ≡ true → leZ (costOf g (w .z)) (costOf g d) ≡ true
-        → (pos 3 *ℤ keptCost g (endKept g d)) ≤ℤ (pos 2 *ℤ allButReserved g)
-    end-ratio hy hz =
-        let C = keptCost g (endKept g d) in
+    -- twice a dearest is no less than the two others, so three times these are at most twice all three
+    end-ratio : EndingByRule g d → (pos 3 *ℤ keptCost g K) ≤ℤ (pos 2 *ℤ allButReserved g)
+    end-ratio r =
+        let C = keptCost g K in
         let A = allButReserved g in
         is-≤ℤ (omega (
           arith,
@@ -190,33 +213,14 @@ module _ {g : Network} (sound : Sound g) (two : g .remaining ≡ 2) where
           times-N 3 C,
           times-P 2 A,
           times-N 2 A,
-          le-is (costOf g (w .y)) (costOf g d) hy,
-          le-is (costOf g (w .z)) (costOf g d) hz,
+          ≤ℤ-is (r .no-dearer (w .y) y-last),
+          ≤ℤ-is (r .no-dearer (w .z) z-last),
         ))
 
-    end-good-of : dearest g d (lastEdges g) ≡ true → Good g (endKept g d)
-    unfolding among
-    end-good-of k =
-        let f = s .four in
-        let in-last : (e : ℕ) → e ≢ d → among e (w .y ∷ w .z ∷ []) ≡ true → among e (lastEdges g) ≡ true =
-        λ e ne h. ap (among e) last-is ∙ sym (among-without d e ne (partners g v)) ∙ ap (among e) (w .others) ∙ h in
-        record {
-          sized = unfold endKept marks in tabulate-length (length (g .low)) (λ e. among e (without d (lastEdges g)));
-          leaves-out = kept-reserved;
-          twice = end-twice;
-          ratio = end-ratio (dearest-at g d (w .y) (lastEdges g) k (in-last (w .y) (λ e. f .xy (sym e)) (rw eqb-self)))
-              (dearest-at g d (w .z) (lastEdges g) k (in-last (w .z) (λ e. f .xz (sym e)) (rw (eqb-self (w .z), or-true))));
-        }
-
-  -- an ending that is not refused keeps a good set
-  pub end-good : (d : ℕ) → endRefusal g d ≡ 0 → Good g (endKept g d)
-  unfolding endRefusal
-  end-good d h =
-      let b = cond-true (among d (lastEdges g) && dearest g d (lastEdges g)) h in
-      let m : among d (lastEdges g) ≡ true = and-left (among d (lastEdges g)) (dearest g d (lastEdges g)) b in
+  -- an ending by rule keeps a good set
+  pub end-good : {d : ℕ} {K : List Bool} → EndingByRule g d → EndKeeps g d K → Good g K
+  end-good {d} r k =
       let ps = three-partners sound v-here o-here o≢v held-v in
-      end-good-of (chosen (star sound v-here o-here o≢v held-v (ps .3)) (ps .3) d (rw last-is at m)) (and-right (among d (lastEdges g)) (dearest g d (lastEdges g)) b)
-    where
-      cond-true : (b : Bool) → cond {A = ℕ} b 0 12 ≡ 0 → b ≡ true
-      cond-true true h = refl
-      cond-true false h = absurd (omega arith)
+      let m : among d (partners g v) ≡ true = rw last-is at (of-last g d (r .one)) in
+      let w = chosen (star sound v-here o-here o≢v held-v (ps .3)) (ps .3) d m in
+      record { sized = k .sized; leaves-out = kept-reserved w k; twice = end-twice w k; ratio = end-ratio w k r }

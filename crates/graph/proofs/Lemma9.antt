@@ -1,8 +1,7 @@
 -- Lemma 9: which sides decide whether a split is admissible, and splits that make a loop.
 use mathlib.Core.Path.{_≡_}
-use mathlib.Core.Logic.{_≢_}
 use mathlib.Core.Bool.{true, false}
-use Prim.Native.Nat.{ℕ, _-_, _≤_, _<_}
+use Prim.Native.Nat.{ℕ, _≤_, _<_}
 use native.Mathlib.Omega.{arith}
 use Rattle.graph.specs.Network.{lowEnd, highEnd, here}
 use Rattle.graph.specs.Cut.{Side, differ, crossings, EveryCut, everyCut}

@@ -12,6 +12,8 @@ pub mod Lifting
 pub mod Endings
 pub mod Rules
 pub mod Plans
+pub mod Checking
+pub mod Backs
 pub mod Condition
 pub mod Picked
 pub mod Differences

@@ -8,7 +8,7 @@ use native.Mathlib.Omega.{arith}
 use native.Mathlib.Decide.{decLe}
 use lib.ListN.{length, getD}
 use lib.IntN.{ℤ}
-use lib.Signed.{leZ, ltZ, _≤ℤ_}
+use lib.Signed.{leZ, ltZ}
 use Rattle.graph.specs.Fold.{bit, only, among}
 use Rattle.graph.specs.Network.{lowEnd, highEnd, costOf, touches}
 use Rattle.graph.specs.Cut.{EveryCut}

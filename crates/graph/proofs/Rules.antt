@@ -6,13 +6,12 @@ use Prim.Native.Nat.{ℕ, suc, _≤_}
 use native.Mathlib.Omega.{arith}
 use native.Mathlib.Decide.{ℕ-discrete}
 use lib.Dec.{eqb}
-use lib.IntN.{ℤ}
-use lib.Signed.{leZ, _≤ℤ_}
+use lib.Signed.{leZ}
 use Rattle.graph.specs.Fold.{only, among}
-use Rattle.graph.specs.Network.{lowEnd, costOf, here, touches, far}
+use Rattle.graph.specs.Network.{costOf, here, touches, far}
 use Rattle.graph.specs.Cut.{EveryCut}
 use Rattle.graph.specs.Split.{isPartner, partners, split, splitWith, admissible, third, after}
-use Rattle.graph.specs.Chain.{stepRefusal, lastEdges, dearest, endRefusal, Partner, StepByRule, LastEdge, EndingByRule}
+use Rattle.graph.specs.Chain.{stepRefusal, lastEdges, dearest, endRefusal, Partner, StepByRule, EndingByRule}
 use Rattle.graph.specs.Sound.{Formed, Sound}
 use Rattle.graph.specs.declared.Network.{Network}
 use Rattle.graph.specs.declared.Step.{Step}
@@ -23,7 +22,7 @@ use Rattle.graph.proofs.Stars.{differ-comm, Runs, forward, backward, St
 use Rattle.graph.proofs.Partners.{another, touches-at, touches-ends, touches-runs, runs-here, three-partners, star, Chosen, chosen, among-without}
 use Rattle.graph.proofs.Splitting.{formed-after, sound-after}
 use Rattle.graph.proofs.Integers.{≤ℤ-is, is-≤ℤ, lt-isnt, not-lt}
-use Rattle.graph.proofs.Endings.{dearest-at}
+use Rattle.graph.proofs.Endings.{dearest-at, last-of, of-last}
 
 -- ── partners ──
 module _ (g : Network) (v e : ℕ) where
@@ -171,21 +170,6 @@ sound-step sound t w = sound-after sound (w .at) (w .v-here) (w .cuts)
 
 -- ── an ending ──
 module _ (g : Network) where
-  last-of : (e : ℕ) → among e (lastEdges g) ≡ true → LastEdge g e
-  unfolding lastEdges
-  last-of e h =
-      let w = pick-among (g .edges) 0 (λ e. here g (lowEnd g e) && not (eqb e (g .reserved))) e h in
-      record {
-        number = omega (arith, w .1);
-        not-retired = and-left (here g (lowEnd g e)) (not (eqb e (g .reserved))) (w .2);
-        not-reserved = λ q. never (rw (q, eqb-self) at (and-right (here g (lowEnd g e)) (not (eqb e (g .reserved))) (w .2)));
-      }
-
-  pub of-last : (e : ℕ) → LastEdge g e → among e (lastEdges g) ≡ true
-  unfolding lastEdges
-  of-last e p =
-      among-pick (g .edges) 0 (λ e. here g (lowEnd g e) && not (eqb e (g .reserved))) e (omega arith) (omega (arith, p .number)) (rw (p .not-retired, eqb-no (p .not-reserved)))
-
   pub dearest-in : (d : ℕ) (l : List ℕ) → ((e : ℕ) → among e l ≡ true → leZ (costOf g e) (costOf g d) ≡ true) → dearest g d l ≡ true
   unfolding dearest among
   dearest-in d [] h = refl
@@ -196,11 +180,11 @@ module _ (g : Network) where
   ending-ruled d h =
       let b = cond-zero (among d (lastEdges g) && dearest g d (lastEdges g)) 11 0 h .0 in
       record {
-        one = last-of d (and-left (among d (lastEdges g)) (dearest g d (lastEdges g)) b);
-        no-dearer = λ e l. record { le = true-T (dearest-at g d e (lastEdges g) (and-right (among d (lastEdges g)) (dearest g d (lastEdges g)) b) (of-last e l)) };
+        one = last-of g d (and-left (among d (lastEdges g)) (dearest g d (lastEdges g)) b);
+        no-dearer = λ e l. record { le = true-T (dearest-at g d e (lastEdges g) (and-right (among d (lastEdges g)) (dearest g d (lastEdges g)) b) (of-last g e l)) };
       }
 
   pub ruled-ending : (d : ℕ) → EndingByRule g d → endRefusal g d ≡ 0
   unfolding endRefusal
   ruled-ending d r =
-      rw (of-last d (r .one), dearest-in d (lastEdges g) (λ e m. T-true (r .no-dearer e (last-of e m) .le)))
+      rw (of-last g d (r .one), dearest-in d (lastEdges g) (λ e m. T-true (r .no-dearer e (last-of g e m) .le)))

@@ -7,7 +7,7 @@ use Prim.Native.Nat.{ℕ, zero, suc, _<_}
 use lib.Dec.{eqb, ltb}
 use lib.ListN.{length, getD, set}
 use lib.Signed.{leZ, ltZ, _≤ℤ_}
-use Rattle.graph.specs.Fold.{pick, without, among, tabulate}
+use Rattle.graph.specs.Fold.{pick, among, tabulate}
 use Rattle.graph.specs.Network.{lowEnd, highEnd, costOf, here, touches}
 use Rattle.graph.specs.Cut.{EveryCut}
 use Rattle.graph.specs.Split.{partners, splitWith, admissible, third, after}
@@ -43,9 +43,9 @@ endRefusal g d = cond (among d (lastEdges g) && dearest g d (lastEdges g)) 0 12
 unfoldable pub marks : Network → List ℕ → List Bool
 marks g is = tabulate (length (g .low)) (λ e. among e is)
 
--- the ending keeps the other two
+-- the ending keeps the last three but the dropped one
 unfoldable pub endKept : Network → ℕ → List Bool
-endKept g d = marks g (without d (lastEdges g))
+endKept g d = set (marks g (lastEdges g)) d false
 
 -- going back through a step: y is kept, and x exactly if z is not
 unfoldable pub lift : ℕ → ℕ → ℕ → List Bool → List Bool

@@ -10,6 +10,7 @@ use lib.Signed.{_≤ℤ_}
 use Rattle.graph.specs.Network.{kept, keptCost, allButReserved}
 use Rattle.graph.specs.Cut.{EveryCutOf}
 use Rattle.graph.specs.Chain.{keeps, check, ByRules}
+use Rattle.graph.specs.Back.{Back}
 use Rattle.graph.specs.declared.Network.{Network}
 use Rattle.graph.specs.declared.Step.{Step}
 
@@ -26,9 +27,11 @@ abbrev pub Passes : Network → List Step → ℕ → Type 0
 Passes g ts d = (K : List Bool) × (check g ts d ≡ keeps K)
 
 pub record Condition (g : Network) : Type 0 where
-  -- a chain passes exactly when it keeps the rules
-  pub rules : (ts : List Step) (d : ℕ) → Passes g ts d ↔ ByRules g ts d
-  -- the edges that a passing chain keeps are as owed
-  pub good : (ts : List Step) (d : ℕ) (K : List Bool) → check g ts d ≡ keeps K → Good g K
-  -- some chain passes
-  pub exists : (ts : List Step) × (d : ℕ) × Passes g ts d
+  -- the check of a chain keeps a set exactly when the chain keeps the rules and going back gives this set
+  pub rules : (ts : List Step) (d : ℕ) (K : List Bool) → (check g ts d ≡ keeps K) ↔ (ByRules g ts d × Back g ts d K)
+  -- going back gives exactly one set
+  pub one : (ts : List Step) (d : ℕ) → ByRules g ts d → (K : List Bool) × Back g ts d K × ((L : List Bool) → Back g ts d L → L ≡ K)
+  -- the edges that a chain by the rules keeps are as owed
+  pub good : (ts : List Step) (d : ℕ) (K : List Bool) → ByRules g ts d → Back g ts d K → Good g K
+  -- some chain keeps the rules
+  pub exists : (ts : List Step) × (d : ℕ) × ByRules g ts d

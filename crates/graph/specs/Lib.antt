@@ -3,6 +3,7 @@ pub mod Network
 pub mod Cut
 pub mod Split
 pub mod Chain
+pub mod Back
 pub mod Plan
 pub mod Connection
 pub mod Sound
