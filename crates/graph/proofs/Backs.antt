@@ -2,13 +2,14 @@
 use mathlib.Core.Path.{_≡_, refl, sym, _∙_, ap}
 use mathlib.Core.Logic.{_≢_, _⊎_, inl, inr}
 use mathlib.Core.Bool.{Bool, true, false}
-use mathlib.Core.List.{List, _∷_}
+use mathlib.Core.List.{List, [], _∷_}
 use Prim.Native.Nat.{ℕ, _≤_, _<_}
 use native.Mathlib.Omega.{arith}
 use native.Mathlib.Decide.{ℕ-discrete, decLt}
-use lib.ListN.{length, length-set, List·getD-eq-default}
+use lib.Dec.{eqb}
+use lib.ListN.{length, set, length-set, List·getD-eq-default}
 use lib.Seq.{ext-getD, getD-set-same, getD-set-other, lt-length-set}
-use Rattle.graph.specs.Fold.{among}
+use Rattle.graph.specs.Fold.{only, without, among}
 use Rattle.graph.specs.Network.{lowEnd, highEnd, kept}
 use Rattle.graph.specs.Split.{split, third, after}
 use Rattle.graph.specs.Chain.{lastEdges, marks, endKept, lift, keeps, check, LastEdge, StepByRule, ByRules, ending, step}
@@ -17,10 +18,10 @@ use Rattle.graph.specs.Sound.{Formed, Sound}
 use Rattle.graph.specs.Condition.{Good}
 use Rattle.graph.specs.declared.Network.{Network}
 use Rattle.graph.specs.declared.Step.{Step}
-use Rattle.graph.proofs.Bools.{never}
+use Rattle.graph.proofs.Bools.{never, eqb-self, eqb-no}
 use Rattle.graph.proofs.Sums.{tabulate-length, tabulate-at}
 use Rattle.graph.proofs.Stars.{Runs, forward, backward}
-use Rattle.graph.proofs.Partners.{touch-ends, touches-at}
+use Rattle.graph.proofs.Partners.{touch-ends, touches-at, among-without}
 use Rattle.graph.proofs.Lifting.{lift-cuts, ratio-step}
 use Rattle.graph.proofs.Endings.{last-of, of-last, end-good}
 use Rattle.graph.proofs.Rules.{Stepped, stepped, sound-step}
@@ -42,6 +43,29 @@ module _ (g : Network) (is : List ℕ) where
     | yes l ↦ marked e l ∙ h
     | no l ↦ List·getD-eq-default (marks g is) false (omega (arith, marks-long))
   ]
+
+-- an edge that is left out of a list does not stand in it
+among-gone : (d : ℕ) (is : List ℕ) → among d (without d is) ≡ false
+unfolding among only
+among-gone d [] = refl
+among-gone d (i ∷ is) = go (eqb i d) refl (among-gone d is)
+  where
+    go : (t : Bool) → eqb i d ≡ t → among d (without d is) ≡ false → among d (without d (i ∷ is)) ≡ false
+    go true e ih = rw e ih
+    go false e ih = rw (e, eqb-no {a = d} {b = i} (λ q. never (sym e ∙ rw q (eqb-self i))), ih)
+
+-- the ending's marks are those of the other two
+pub end-marks : (g : Network) (d : ℕ) → endKept g d ≡ marks g (without d (lastEdges g))
+unfolding endKept
+end-marks g d = ext-getD false _ _ (simp length-set (marks-long g is ∙ sym (marks-long g (without d is)))) (λ e l.
+    at e (omega (arith, simp length-set at l, marks-long g is)) (ℕ-discrete e d))
+  where
+    is : List ℕ
+    is = lastEdges g
+
+    at : (e : ℕ) → e < length (g .low) → Dec (e ≡ d) → kept (set (marks g is) d false) e ≡ kept (marks g (without d is)) e
+    at e l (yes q) = rw q (getD-set-same (marks g is) d false false (omega (arith, q, marks-long g is)) ∙ sym (unmarked g (without d is) d (among-gone d is)))
+    at e l (no q) = getD-set-other (marks g is) d e false false q ∙ marked g is e l ∙ sym (marked g (without d is) e l ∙ among-without d e q is)
 
 -- the check's ending keeps what the rule says
 end-keeps : {g : Network} → Formed g → {d : ℕ} → d < g .edges → EndKeeps g d (endKept g d)
@@ -141,6 +165,29 @@ back-good sound (ending two r) (ends k) = end-good sound two r k
 back-good {ts = t ∷ ts} sound (step more r rest) (goes b p k) =
     let w = stepped sound (omega arith) t r in
     good-step sound r w (rw (one-third w p) at k) (back-good (sound-step sound t w) rest b)
+
+-- it is a set of the network's edges
+pub back-below : {g : Network} {ts : List Step} {d : ℕ} {K : List Bool} → Sound g → ByRules g ts d → Back g ts d K → (e : ℕ) → kept K e ≡ true → e < g .edges
+back-below {g} {d = d} {K = K} sound (ending two r) (ends k) e h = elim (ℕ-discrete e d) [
+  | yes q ↦ never (sym (k .dropped) ∙ rw q at h)
+  | no q ↦ go (among e (lastEdges g)) refl q
+]
+  where
+    go : (t : Bool) → among e (lastEdges g) ≡ t → e ≢ d → e < g .edges
+    go true m q = last-of g e m .number
+    go false m q = never (sym (k .rest e (λ p. never (sym m ∙ of-last g e p)) q) ∙ h)
+back-below {g} {ts = t ∷ ts} {K = K} sound (step more r rest) (goes b p k) e h =
+    let w = stepped sound (omega arith) t r in
+    elim (ℕ-discrete e (t .x)) [
+      | yes q ↦ rw q (w .at .four .x<)
+      | no nx ↦ elim (ℕ-discrete e (t .y)) [
+        | yes q ↦ rw q (w .at .four .y<)
+        | no ny ↦ let l = back-below (sound-step sound t w) rest b e (sym (k .others e nx ny) ∙ h) in rw edges-stay at l
+      ]
+    ]
+  where
+    edges-stay : after g t .edges ≡ g .edges
+    edges-stay = unfold after split in refl
 
 -- the check of a chain keeps what going back gives
 pub check-back : {g : Network} {ts : List Step} {d : ℕ} {K : List Bool} → Sound g → ByRules g ts d → check g ts d ≡ keeps K → Back g ts d K

@@ -15,6 +15,7 @@ pub mod Plans
 pub mod Checking
 pub mod Backs
 pub mod Condition
+pub mod Numbers
 pub mod Picked
 pub mod Differences
 pub mod Degrees

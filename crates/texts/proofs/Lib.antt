@@ -9,6 +9,7 @@ pub mod NetworksGiven
 pub mod NetworksChecking
 pub mod NetworksWriting
 pub mod NetworksText
+pub mod NetworksRefusals
 pub mod NetworksRoundTrip
 pub mod NetworksExamples
 pub mod ChainsColumns

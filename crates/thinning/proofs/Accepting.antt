@@ -7,17 +7,19 @@ use native.Mathlib.Omega.{arith}
 use lib.ListN.{length}
 use Rattle.frame.specs.Answer.{Answer, refused, answer, andThen}
 use Rattle.texts.specs.Limits.{unless}
-use Rattle.loading.specs.Loading.{loadNetwork, loadedBy}
+use Rattle.texts.specs.Networks.{Meaning, readNetwork}
+use Rattle.loading.specs.Loading.{networkOf, loadNetwork, loadedBy}
 use Rattle.loading.proofs.Reading.{Known, loaded-known}
 use Rattle.graph.specs.Cut.{everyCut, fourEach, networkRefusal}
 use Rattle.graph.specs.Chain.{refused as refusedWith, keeps}
 use Rattle.graph.specs.State.{vertexLimit}
 use Rattle.graph.specs.declared.Network.{Network}
-use Rattle.graph.proofs.Condition.{accepted-sound, fresh-remaining, passes-good}
+use Rattle.graph.proofs.Backs.{passes-good}
+use Rattle.graph.proofs.Condition.{accepted-sound, fresh-remaining}
 use Rattle.thinning.specs.declared.network.Acceptance.the-variants.{Accepted, Refused}
 use Rattle.thinning.specs.Running.{Running, Keeping}
 use Rattle.thinning.specs.Verdicts.{checkChain}
-use Rattle.thinning.specs.Services.{acceptNetwork, acceptanceOf, keptOf, keptIn, checkChainText}
+use Rattle.thinning.specs.Services.{acceptNetwork, acceptanceOf, keptIn, checkChainText}
 use Rattle.thinning.proofs.ChainTexts.{bytes-meant}
 
 -- ── refusals 6 and 7 ──
@@ -57,20 +59,31 @@ answered-accepted a g e = rw e
 
 -- ── an accepted network ──
 pub record Whole (t : List ℕ) (g : Network) : Type 0 where
+  pub meaning : Meaning
+  pub read : readNetwork t ≡ answer meaning
+  pub state-is : networkOf meaning ≡ g
   pub known : Known g
   pub passed : networkRefusal g ≡ 0
 
 pub accepted-whole : (t : List ℕ) (g : Network) → acceptNetwork t ≡ answer g → Whole t g
-unfolding acceptNetwork andThen
-accepted-whole t g e = go (loadNetwork t) refl e
+unfolding acceptNetwork loadNetwork andThen
+accepted-whole t g e = go (readNetwork t) refl e
   where
     judged : (h : Network) (k : ℕ) → networkRefusal h ≡ k → unless k (answer h) ≡ answer g → (networkRefusal h ≡ 0) × (h ≡ g)
     judged h zero q e = unfold unless in (q, cc)
     judged h (suc k) q e = unfold unless in let z : _≡_ {A = ℕ} 0 1 = cc in absurd (omega arith)
 
-    go : (a : Answer Network) → loadNetwork t ≡ a → andThen a (λ g. unless (networkRefusal g) (answer g)) ≡ answer g → Whole t g
-    go (refused k) q e = let z : _≡_ {A = ℕ} 0 1 = cc in absurd (omega arith)
-    go (answer h) q e = let w = judged h (networkRefusal h) refl e in rw (← w .1) (record { known = loaded-known t h q; passed = w .0 })
+    go : (a : Answer Meaning) → readNetwork t ≡ a
+        → andThen (andThen a (λ m. answer (networkOf m))) (λ g. unless (networkRefusal g) (answer g)) ≡ answer g → Whole t g
+    go (refused k) q e = unfold andThen in let z : _≡_ {A = ℕ} 0 1 = cc in absurd (omega arith)
+    go (answer m) q e = unfold andThen in
+        let w = judged (networkOf m) (networkRefusal (networkOf m)) refl e in
+        rw (← w .1) (record { meaning = m; read = q; state-is = refl; known = loaded-known t (networkOf m) (unfold loadNetwork andThen in rw q); passed = w .0 })
+
+-- a network that reads and is not refused is accepted
+pub whole-accepted : (t : List ℕ) (m : Meaning) → readNetwork t ≡ answer m → networkRefusal (networkOf m) ≡ 0 → acceptNetwork t ≡ answer (networkOf m)
+unfolding acceptNetwork loadNetwork andThen unless
+whole-accepted t m q p = rw (q, p)
 
 -- an accepted network runs
 pub accepted-running : (t : List ℕ) (g : Network) → acceptNetwork t ≡ answer g → Running g
@@ -111,6 +124,6 @@ module _ (network chain : List ℕ) where
     unfolding checkChainText andThen keptIn
     chain-refused k h = rw (e, h)
 
-    pub chain-kept : (K : List Bool) → checkChain (g .remaining - 2) g chain ≡ keeps K → checkChainText network chain ≡ answer (keptOf g K)
-    unfolding checkChainText andThen keptIn
+    pub chain-kept : (K : List Bool) → checkChain (g .remaining - 2) g chain ≡ keeps K → checkChainText network chain ≡ keptIn g (keeps K)
+    unfolding checkChainText andThen
     chain-kept K h = rw (e, h)

@@ -19,9 +19,9 @@ use Rattle.graph.specs.Chain.{stepRefusal, endRefusal, endKept, lift, keeps, li
 use Rattle.graph.specs.declared.Network.{Network}
 use Rattle.graph.specs.declared.Step.{Step}
 use Rattle.graph.proofs.Rules.{ruled-step}
-use Rattle.graph.proofs.Condition.{unless-keeps, counted-keeps, lift-keeps, check-began, passes-ruled}
+use Rattle.graph.proofs.Checking.{unless-keeps, counted-keeps, lift-keeps, check-began, passes-ruled}
 use Rattle.thinning.specs.Running.{Running}
-use Rattle.thinning.specs.Verdicts.{stepIn, droppedIn, checkEnding, checkChain, lifted}
+use Rattle.thinning.specs.Verdicts.{stepIn, droppedIn, leftOver, checkEnding, checkChain, lifted}
 use Rattle.thinning.specs.Plans.{inFrame}
 use Rattle.thinning.proofs.Chains.{ending-kept, chain-at-more, running-after, step-taken, v-below}
 
@@ -48,9 +48,9 @@ pub record Meant (g : Network) (t : List ℕ) (K : List Bool) : Type 0 where
 ending-meant : (g : Network) (t : List ℕ) (K : List Bool) → g .remaining ≡ 2 → checkEnding g t ≡ keeps K → Meant g t K
 unfolding checkEnding chainText check unless
 ending-meant g t K e h =
-    let a = counted-keeps (isLine DROPPED t) _ K h in
+    let a = counted-keeps (isLine DROPPED t) _ 1 K h in
     let b = unless-keeps (endRefusal g (droppedIn t)) _ K (a .1) in
-    let c = counted-keeps (leb (length t) (lineLength DROPPED)) (keeps (endKept g (droppedIn t))) K (b .1) in
+    let c = counted-keeps (leb (length t) (lineLength DROPPED)) (keeps (endKept g (droppedIn t))) leftOver K (b .1) in
     record {
       steps = [];
       dropped = droppedIn t;
@@ -63,7 +63,7 @@ unfolding checkChain
 bytes-meant zero g t K e h = ending-meant g t K e h
 bytes-meant (suc n) g t K e h =
     let s = stepIn t in
-    let a = counted-keeps (isLine STEP t) _ K h in
+    let a = counted-keeps (isLine STEP t) _ 1 K h in
     let b = unless-keeps (stepRefusal g s) (liftVerdict g s (checkChain n (after g s) (drop (lineLength STEP) t))) K (a .1) in
     let c = lift-keeps g s (checkChain n (after g s) (drop (lineLength STEP) t)) K (b .1) in
     let m = bytes-meant n (after g s) (drop (lineLength STEP) t) (c .0) (fewer e) (c .1) in
@@ -97,7 +97,7 @@ ending-passes g d K r l h =
     let is : isLine DROPPED text ≡ true = ap (isLine DROPPED) e ∙ line-is DROPPED f [] in
     let found : fieldsOf DROPPED text ≡ f = ap (fieldsOf DROPPED) e ∙ fields-found DROPPED f [] (dropped-fits d l) in
     let named : droppedIn text ≡ d = ap (λ f. droppedOf f .edge) found in
-    let k = counted-keeps (eqb (g .remaining) 2) _ K h in
+    let k = counted-keeps (eqb (g .remaining) 2) _ 1 K h in
     let u = unless-keeps (endRefusal g d) (keeps (endKept g d)) K (k .1) in
     ending-kept g text is (ap (endRefusal g) named ∙ u .0) (omega (arith, length-line DROPPED f)) ∙ ap (λ i. keeps (endKept g i)) named ∙ u .1
 

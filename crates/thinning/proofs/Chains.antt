@@ -22,7 +22,7 @@ use Rattle.thinning.specs.declared.ending.Ended.the-variants as ended
 use Rattle.thinning.specs.Running.{Running}
 use Rattle.thinning.specs.Judgements.{judgedBy, judgedOf}
 use Rattle.thinning.specs.Endings.{keptWith, endedBy, endedOf}
-use Rattle.thinning.specs.Verdicts.{stepIn, droppedIn, checkEnding, checkChain, verdictBy, lifted}
+use Rattle.thinning.specs.Verdicts.{stepIn, droppedIn, leftOver, checkEnding, checkChain, verdictBy, lifted}
 use Rattle.thinning.proofs.Trios.{splittable}
 
 -- ── verdicts as the code has them ──
@@ -80,7 +80,7 @@ module _ (g : Network) (t : List ℕ) where
     ending-refused zero l h = absurd (omega arith)
     ending-refused (suc k) l h = rw (is, h)
 
-    pub ending-longer : endRefusal g (droppedIn t) ≡ 0 → lineLength DROPPED < length t → checkEnding g t ≡ refused 1
+    pub ending-longer : endRefusal g (droppedIn t) ≡ 0 → lineLength DROPPED < length t → checkEnding g t ≡ refused leftOver
     unfolding checkEnding unless
     ending-longer h l = rw (is, h, lt-leb (length t) (lineLength DROPPED) l)
 

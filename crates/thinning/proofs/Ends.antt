@@ -22,8 +22,9 @@ use Rattle.graph.proofs.Bools.{eqb-self, eqb-no, eqb-is}
 use Rattle.graph.proofs.Sums.{tabulate-length, tabulate-at}
 use Rattle.graph.proofs.Integers.{le-test, le-is, lt-is, lt-isnt}
 use Rattle.graph.proofs.Partners.{first-others, second-others, third-others, chosen, among-without}
-use Rattle.graph.proofs.Endings.{dearest-at, held-v, last-is}
-use Rattle.graph.proofs.Rules.{dearest-in, of-last, ending-ruled}
+use Rattle.graph.proofs.Endings.{dearest-at, of-last, held-v, last-is}
+use Rattle.graph.proofs.Rules.{dearest-in, ending-ruled}
+use Rattle.graph.proofs.Backs.{end-marks}
 use Rattle.thinning.specs.declared.ending.Ended.the-variants.{Keeping, Refused}
 use Rattle.thinning.specs.declared.ending.Drop.{Drop}
 use Rattle.thinning.specs.Running.{Last}
@@ -106,7 +107,7 @@ module _ {g : Network} (l : Last g) (d : ℕ) (passed : endRefusal g d ≡ 0) wh
     pub marks-are : endKept g d ≡ tabulate edgeLimit (λ e. among e (i ∷ j ∷ []))
 
   pub two-of : (i j : ℕ) → i ≡ getD (keptWith g d) 0 0 → j ≡ getD (keptWith g d) 1 0 → Two i j
-  unfolding endKept marks
+  unfolding marks
   two-of i j ei ej =
       let t = last-trio l (firstThree (lastEdges g)) refl in
       let w = chosen (t .at) (t .listed) d (ap (among d) (sym (last-three l)) ∙ of-last g d (ending-ruled g d passed .one)) in
@@ -116,7 +117,7 @@ module _ {g : Network} (l : Last g) (d : ℕ) (passed : endRefusal g d ≡ 0) wh
       record {
         low-below = omega (arith, qi, w .at .four .y<, l .run .edge-room);
         high-below = omega (arith, qj, w .at .four .z<, l .run .edge-room);
-        marks-are = rw (l .run .long, others, qi, qj);
+        marks-are = end-marks g d ∙ rw (l .run .long, others, qi, qj);
       }
 
 -- ── the planner's ending ──

@@ -2,7 +2,7 @@
 use mathlib.Core.Path.{_≡_, refl}
 use mathlib.Core.Bool.{Bool, true, false, _&&_}
 use mathlib.Core.List.{List, [], _∷_, map}
-use Prim.Native.Nat.{ℕ, _-_}
+use Prim.Native.Nat.{ℕ}
 use lib.Dec.{eqb}
 use Rattle.frame.specs.Answer.{Answer, refused, answer, andThen, over}
 use Rattle.frame.specs.Table.{lineLength, startOf, placeOf, total, widths, bytesOf, padded, digitsOf, kindOf}

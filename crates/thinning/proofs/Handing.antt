@@ -15,7 +15,8 @@ use Rattle.graph.specs.Split.{after}
 use Rattle.graph.specs.Plan.{chosenStep, planSteps, planDrop, planKept}
 use Rattle.graph.specs.State.{vertexLimit}
 use Rattle.graph.specs.declared.Network.{Network}
-use Rattle.graph.proofs.Condition.{plan-checked, passes-good}
+use Rattle.graph.proofs.Backs.{passes-good}
+use Rattle.graph.proofs.Condition.{plan-checked}
 use Rattle.thinning.specs.declared.planner.Planned.the-variants as planned
 use Rattle.thinning.specs.Plans.{inFrame, planChain, chainLength}
 use Rattle.thinning.specs.Services.{Texts, acceptNetwork, keptOf, textsOf, planText, planRoom, textsGiven, planGiven, plannedOf, Planning}

@@ -4,7 +4,8 @@ use mathlib.Core.List.{List}
 use mathlib.Core.Path.{_≡_}
 use Prim.Native.Nat.{ℕ, _-_, _≤_}
 use lib.ListN.{length, take}
-use Rattle.frame.specs.Answer.{Answer, refused, answer, andThen, given, roomIn}
+use Rattle.frame.specs.Answer.{Answer, refused, answer, andThen, given, filled, roomIn, replyOf, after}
+use Rattle.frame.specs.declared.reply.Reply.{Reply}
 use Rattle.texts.specs.Limits.{unless}
 use Rattle.texts.specs.Kept.{keptEdges, keptText}
 use Rattle.loading.specs.Loading.{loadNetwork}
@@ -46,6 +47,13 @@ keptIn g (keeps K) = answer (keptOf g K)
 unfoldable pub checkChainText : List ℕ → List ℕ → Answer (List ℕ)
 checkChainText network chain = andThen (acceptNetwork network) (λ g. keptIn g (checkChain (g .remaining - 2) g chain))
 
+-- the reply, and the kept buffer afterwards: 13 where the buffer is shorter than the kept text
+abbrev pub chainReply : List ℕ → List ℕ → List ℕ → Reply
+chainReply network chain kept = replyOf (checkChainText network chain) kept
+
+abbrev pub keptAfter : List ℕ → List ℕ → List ℕ → List ℕ
+keptAfter network chain kept = after (checkChainText network chain) kept
+
 -- ── plan ──
 
 -- the two texts of a plan
@@ -72,6 +80,20 @@ textsGiven g K chain kept = given (planRoom chain kept) (answer (textsOf g K))
 unfoldable pub planGiven : List ℕ → List ℕ → List ℕ → Answer Texts
 planGiven network chain kept = given (planRoom chain kept) (planText network)
 
+unfoldable pub plannedOf : Answer Texts → Planned
+plannedOf (refused k) = planned.Refused k
+plannedOf (answer t) = planned.Written (length (t .chain)) (length (t .kept))
+
+-- the reply, and the two buffers afterwards
+abbrev pub planReply : List ℕ → List ℕ → List ℕ → Planned
+planReply network chain kept = plannedOf (planGiven network chain kept)
+
+abbrev pub plannedChain : List ℕ → List ℕ → List ℕ → List ℕ
+plannedChain network chain kept = filled (λ t. t .chain) (planGiven network chain kept) chain
+
+abbrev pub plannedKept : List ℕ → List ℕ → List ℕ → List ℕ
+plannedKept network chain kept = filled (λ t. t .kept) (planGiven network chain kept) kept
+
 -- the chain of a plan stands at the start of a buffer, and its marks can be written
 pub record Planning (g : Network) (K : List Bool) (planned : List ℕ) : Type 0 where
   pub keeping : Keeping g K
@@ -79,7 +101,3 @@ pub record Planning (g : Network) (K : List Bool) (planned : List ℕ) : Type 0 
   pub vertex-room : g .remaining ≤ vertexLimit
   pub chain-room : chainLength (g .remaining - 2) ≤ length planned
   pub chain-is : take (chainLength (g .remaining - 2)) planned ≡ planChain (g .remaining - 2) g
-
-unfoldable pub plannedOf : Answer Texts → Planned
-plannedOf (refused k) = planned.Refused k
-plannedOf (answer t) = planned.Written (length (t .chain)) (length (t .kept))

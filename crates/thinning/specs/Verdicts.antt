@@ -20,11 +20,15 @@ stepIn t = let s = stepOf (fieldsOf STEP t) in record { v = s .v; x = s .x; y = 
 abbrev pub droppedIn : List ℕ → ℕ
 droppedIn t = droppedOf (fieldsOf DROPPED t) .edge
 
+-- the refusal of bytes left over
+abbrev pub leftOver : ℕ
+leftOver = 1
+
 -- the ending: a frame 04 with nothing left over behind it
 unfoldable pub checkEnding : Network → List ℕ → Verdict
 checkEnding g t =
     let d = droppedIn t in
-    let whole = cond (leb (length t) (lineLength DROPPED)) (keeps (endKept g d)) (refused 1) in
+    let whole = cond (leb (length t) (lineLength DROPPED)) (keeps (endKept g d)) (refused leftOver) in
     cond (isLine DROPPED t) (unless (endRefusal g d) whole) (refused 1)
 
 -- n frames 03, each judged on the network that those before it left, and the ending

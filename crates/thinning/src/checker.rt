@@ -10,7 +10,7 @@ use texts::write_kept;
 ghost use mathlib.Core.Path.{_≡_};
 ghost use Rattle.frame.specs.Answer.{answer, replyOf, after};
 ghost use Rattle.thinning.specs.Running.{Keeping};
-ghost use Rattle.thinning.specs.Services.{keptOf, checkChainText};
+ghost use Rattle.thinning.specs.Services.{keptOf, chainReply, keptAfter};
 
 // Writes the kept text of marked edges to the start of `text`, if there is room.
 pub fn put_kept(network: Network, kept: Kept, text: &mut [u8]) -> Reply
@@ -27,8 +27,8 @@ pub fn put_kept(network: Network, kept: Kept, text: &mut [u8]) -> Reply
 
 // Checks any bytes proposed as a chain over a network text, and writes the kept text: the network's refusals, then the chain's, then 13.
 pub fn check_chain(network: &[u8], chain: &[u8], kept: &mut [u8]) -> Reply
-    ensures reply { λ r. ⌜ r ≡ replyOf (checkChainText (now (network .entry)) (now (chain .entry))) (now (kept .entry)) ⌝ }
-    ensures kept { λ r. ⌜ now (kept .exit) ≡ after (checkChainText (now (network .entry)) (now (chain .entry))) (now (kept .entry)) ⌝ }
+    ensures reply { λ r. ⌜ r ≡ chainReply (now (network .entry)) (now (chain .entry)) (now (kept .entry)) ⌝ }
+    ensures kept { λ r. ⌜ now (kept .exit) ≡ keptAfter (now (network .entry)) (now (chain .entry)) (now (kept .entry)) ⌝ }
 {
     let accepted = accept(network);
     let refusal = accepted.refusal;

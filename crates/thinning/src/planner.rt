@@ -14,7 +14,7 @@ ghost use Prim.Native.Nat.{_-_, _≤_};
 ghost use Rattle.frame.specs.Answer.{filled};
 ghost use Rattle.graph.specs.State.{vertexLimit};
 ghost use Rattle.thinning.specs.Plans.{chainLength};
-ghost use Rattle.thinning.specs.Services.{planGiven, plannedOf, textsGiven, Planning};
+ghost use Rattle.thinning.specs.Services.{plannedOf, textsGiven, planReply, plannedChain, plannedKept, Planning};
 
 // What planning answers: the lengths of the two texts, or a refusal.
 pub enum Planned {
@@ -66,9 +66,9 @@ fn hand_over(
 
 // Plans a network text: writes the chain text and the kept text, or gives the network's refusal, or 13 and writes nothing.
 pub fn plan(network: &[u8], chain: &mut [u8], kept: &mut [u8]) -> Planned
-    ensures reply { λ r. ⌜ r ≡ plannedOf (planGiven (now (network .entry)) (now (chain .entry)) (now (kept .entry))) ⌝ }
-    ensures chain { λ r. ⌜ now (chain .exit) ≡ filled (λ t. t .chain) (planGiven (now (network .entry)) (now (chain .entry)) (now (kept .entry))) (now (chain .entry)) ⌝ }
-    ensures kept { λ r. ⌜ now (kept .exit) ≡ filled (λ t. t .kept) (planGiven (now (network .entry)) (now (chain .entry)) (now (kept .entry))) (now (kept .entry)) ⌝ }
+    ensures reply { λ r. ⌜ r ≡ planReply (now (network .entry)) (now (chain .entry)) (now (kept .entry)) ⌝ }
+    ensures chain { λ r. ⌜ now (chain .exit) ≡ plannedChain (now (network .entry)) (now (chain .entry)) (now (kept .entry)) ⌝ }
+    ensures kept { λ r. ⌜ now (kept .exit) ≡ plannedKept (now (network .entry)) (now (chain .entry)) (now (kept .entry)) ⌝ }
 {
     let accepted = accept(network);
     let refusal = accepted.refusal;

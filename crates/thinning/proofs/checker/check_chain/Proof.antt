@@ -4,6 +4,7 @@ use borrow.Author.Needs.{needs}
 use Rattle.frame.specs.Answer.{replyOf, after}
 use Rattle.frame.proofs.Answers.{refuses}
 use Rattle.loading.proofs.Reading.{loaded-zero, loaded-refused}
+use Rattle.thinning.specs.Services.{keptIn}
 use Rattle.thinning.proofs.Chains.{verdict-refused, verdict-zero}
 use Rattle.thinning.proofs.Accepting.{accepted-running, passing-keeping, chain-network-refused, chain-refused, chain-kept}
 use Rattle.thinning.proofs.checker.check_chain.Statement.{statement}
@@ -44,6 +45,7 @@ same-length : tie.Need-same-length
 same-length c = search needs
 
 returns-3 : tie.Need-returns-3
+unfolding keptIn
 returns-3 c =
     let p = c .before .before in
     let f = p .before .before .before .before in

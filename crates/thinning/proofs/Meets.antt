@@ -1,0 +1,93 @@
+-- Which refusals a network text meets and which a proposed chain; 13 is none of them.
+use mathlib.Core.Path.{_≡_, refl}
+use mathlib.Core.Logic.{_⊎_, inl, inr, ⊎-elim}
+use mathlib.Core.Bool.{Bool, true, false, cond}
+use mathlib.Core.List.{List}
+use Prim.Native.Nat.{ℕ, zero, suc, _-_, _≤_}
+use native.Mathlib.Omega.{arith}
+use lib.Dec.{leb}
+use lib.ListN.{length, drop}
+use Rattle.frame.specs.Answer.{Answer, refused as refusedBy, answer, andThen}
+use Rattle.frame.specs.Table.{STEP, DROPPED, lineLength}
+use Rattle.frame.specs.Line.{isLine}
+use Rattle.texts.specs.Limits.{unless as unlessBy}
+use Rattle.texts.specs.Networks.{Meaning, readNetwork}
+use Rattle.texts.proofs.NetworksRefusals.{read-refused}
+use Rattle.loading.specs.Loading.{networkOf, loadNetwork}
+use Rattle.graph.specs.Cut.{networkRefusal}
+use Rattle.graph.specs.Split.{after}
+use Rattle.graph.specs.Chain.{stepRefusal, endRefusal, endKept, Verdict, refused, keeps, liftVerdict, unless}
+use Rattle.graph.specs.declared.Network.{Network}
+use Rattle.graph.specs.declared.Step.{Step}
+use Rattle.graph.proofs.Numbers.{step-number, ending-number, network-number}
+use Rattle.thinning.specs.Verdicts.{stepIn, droppedIn, leftOver, checkEnding, checkChain}
+use Rattle.thinning.specs.Services.{acceptNetwork, keptIn, checkChainText}
+
+-- ── a chain ──
+
+-- a refusal of a proposed chain: of its form, or of a step or an ending
+abbrev pub OfChain : ℕ → Type 0
+OfChain k = (k ≡ 1) ⊎ ((8 ≤ k) × (k ≤ 12))
+
+step-of-chain : (g : Network) (t : Step) → (stepRefusal g t ≡ 0) ⊎ OfChain (stepRefusal g t)
+step-of-chain g t = ⊎-elim inl (λ w. inr (inr (w .0, omega (arith, w .1)))) (step-number g t)
+
+ending-of-chain : (g : Network) (d : ℕ) → (endRefusal g d ≡ 0) ⊎ OfChain (endRefusal g d)
+ending-of-chain g d = ⊎-elim inl (λ e. inr (inr (omega arith, omega arith))) (ending-number g d)
+
+-- a refusal's number first, and then what follows
+first-refused : (j k : ℕ) (next : Verdict) → (j ≡ 0) ⊎ OfChain j → (next ≡ refused k → OfChain k) → unless j next ≡ refused k → OfChain k
+unfolding unless
+first-refused zero k next n h e = h e
+first-refused (suc j) k next n h e = let q : k ≡ suc j = cc in rw q (⊎-elim (λ z. absurd (omega arith)) (λ o. o) n)
+
+-- a test first, and its refusal
+tested : (b : Bool) (j k : ℕ) (next : Verdict) → OfChain j → (next ≡ refused k → OfChain k) → cond b next (refused j) ≡ refused k → OfChain k
+tested true j k next o h e = h e
+tested false j k next o h e = let q : k ≡ j = cc in rw q o
+
+lift-refused : (g : Network) (t : Step) (w : Verdict) (k : ℕ) → liftVerdict g t w ≡ refused k → w ≡ refused k
+unfolding liftVerdict
+lift-refused g t (refused j) k e = e
+lift-refused g t (keeps K) k e = let z : _≡_ {A = ℕ} 0 1 = cc in absurd (omega arith)
+
+ending-refused : (g : Network) (t : List ℕ) (k : ℕ) → checkEnding g t ≡ refused k → OfChain k
+unfolding checkEnding
+ending-refused g t k e =
+    tested (isLine DROPPED t) 1 k _ (inl refl)
+    (first-refused (endRefusal g (droppedIn t)) k _ (ending-of-chain g (droppedIn t))
+    (tested (leb (length t) (lineLength DROPPED)) leftOver k (keeps (endKept g (droppedIn t))) (inl refl) (λ q. let z : _≡_ {A = ℕ} 0 1 = cc in absurd (omega arith))))
+    e
+
+chain-refused : (n : ℕ) (g : Network) (t : List ℕ) (k : ℕ) → checkChain n g t ≡ refused k → OfChain k
+unfolding checkChain
+chain-refused zero g t k e = ending-refused g t k e
+chain-refused (suc n) g t k e =
+    let s = stepIn t in
+    let later = checkChain n (after g s) (drop (lineLength STEP) t) in
+    tested (isLine STEP t) 1 k _ (inl refl)
+    (first-refused (stepRefusal g s) k (liftVerdict g s later) (step-of-chain g s)
+    (λ q. chain-refused n (after g s) (drop (lineLength STEP) t) k (lift-refused g s later k q)))
+    e
+
+pub chain-meets : (t chain : List ℕ) (g : Network) (k : ℕ) → acceptNetwork t ≡ answer g → checkChainText t chain ≡ refusedBy k → OfChain k
+unfolding checkChainText andThen keptIn
+chain-meets t chain g k a e = go (checkChain (g .remaining - 2) g chain) refl (rw a at e)
+  where
+    go : (w : Verdict) → checkChain (g .remaining - 2) g chain ≡ w → keptIn g w ≡ refusedBy k → OfChain k
+    go (refused j) q e = let z : j ≡ k = cc in rw (← z) (chain-refused (g .remaining - 2) g chain j q)
+    go (keeps K) q e = let z : _≡_ {A = ℕ} 0 1 = cc in absurd (omega arith)
+
+-- ── a network ──
+pub network-meets : (t : List ℕ) (k : ℕ) → acceptNetwork t ≡ refusedBy k → (1 ≤ k) × (k ≤ 7)
+unfolding acceptNetwork loadNetwork andThen
+network-meets t k e = go (readNetwork t) refl e
+  where
+    judged : (g : Network) (j : ℕ) → j ≤ 7 → unlessBy j (answer g) ≡ refusedBy k → (1 ≤ k) × (k ≤ 7)
+    judged g zero l e = unfold unlessBy in let z : _≡_ {A = ℕ} 0 1 = cc in absurd (omega arith)
+    judged g (suc j) l e = unfold unlessBy in let q : k ≡ suc j = cc in (omega arith, omega arith)
+
+    go : (a : Answer Meaning) → readNetwork t ≡ a
+        → andThen (andThen a (λ m. answer (networkOf m))) (λ g. unlessBy (networkRefusal g) (answer g)) ≡ refusedBy k → (1 ≤ k) × (k ≤ 7)
+    go (refusedBy j) q e = unfold andThen in let z : j ≡ k = cc in let w = read-refused t j q in (omega (arith, w .0), omega (arith, w .1))
+    go (answer m) q e = unfold andThen in judged (networkOf m) (networkRefusal (networkOf m)) (network-number (networkOf m)) e
