@@ -76,8 +76,8 @@ end-keeps {g} formed {d} l =
     record {
       sized = simp length-set (marks-long g is);
       dropped = simp getD-set-same;
-      others = λ e p ne. getD-set-other (marks g is) d e false false ne ∙ marked g is e (omega (arith, p .number, formed .low-room)) ∙ of-last g e p;
-      rest = λ e out ne. getD-set-other (marks g is) d e false false ne ∙ unmarked g is e (unlisted e out (among e is) refl);
+      others = λ e p ne. simp getD-set-other (marked g is e (omega (arith, p .number, formed .low-room)) ∙ of-last g e p);
+      rest = λ e out ne. simp getD-set-other (unmarked g is e (unlisted e out (among e is) refl));
     }
   where
     unlisted : (e : ℕ) → (LastEdge g e → ⊥) → (t : Bool) → among e (lastEdges g) ≡ t → among e (lastEdges g) ≡ false
