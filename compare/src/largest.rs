@@ -37,23 +37,19 @@ struct Case {
 
 /// Runs all families, a line for each, and says how many differences were met.
 pub fn run() -> u64 {
-    let mut differences = 0;
-    let mut networks = 0;
+    let (mut networks, mut differences) = (0, 0);
     for family in Family::ALL {
-        let mut same = Vec::new();
+        let (mut names, mut met) = (Vec::new(), 0);
         for (name, compared) in family_networks(family, &mut networks) {
-            match compared {
-                Ok(()) => same.push(name),
-                Err(difference) => {
-                    differences += 1;
-                    println!(
-                        "{}",
-                        difference.report(&format!("largest-{family:?}-{name}"))
-                    );
-                }
+            if let Err(difference) = compared {
+                met += 1;
+                let report = difference.report(&format!("largest-{family:?}-{name}"));
+                println!("{report}");
             }
+            names.push(name);
         }
-        println!("{family:?}: the same for {}", same.join(", "));
+        println!("{family:?}: {}: {met} differences", names.join(", "));
+        differences += met;
     }
     println!("{networks} networks of {VERTICES} vertices, {differences} differences");
     differences
