@@ -255,3 +255,52 @@ fn four(more: usize, due: usize) -> [usize; 4] {
 pub fn due_length<T>(rng: &mut Rng, due: Option<&[T]>) -> usize {
     due.map_or_else(|| rng.below(700), <[T]>::len)
 }
+
+#[cfg(test)]
+mod tests {
+    use super::*;
+
+    /// The comparison of a buffer of three elements, to which two are due, after a change.
+    fn compared(answer: u32, refusal: Option<Refusal>, change: impl Fn(&mut [u8])) -> Compared {
+        let mut lent = Lent::new(&mut Rng::new(1), 3);
+        change(&mut lent.now);
+        let due = &b"05"[..];
+        compare("writer", answer, refusal, &[], &[&("text", &lent, due)])
+    }
+
+    fn write(all: &mut [u8]) {
+        all[GUARD..GUARD + 2].copy_from_slice(b"05");
+    }
+
+    #[test]
+    fn what_is_due_is_no_difference() {
+        assert!(compared(0, None, write).is_ok());
+        assert!(compared(4, Some(4), |_| ()).is_ok());
+    }
+
+    #[test]
+    fn every_change_beyond_that_is_a_difference() {
+        assert!(compared(13, None, |_| ()).is_err());
+        assert!(compared(0, Some(4), write).is_err());
+        assert!(compared(4, Some(4), write).is_err());
+        assert!(compared(0, None, |_| ()).is_err());
+        for place in [0, GUARD - 1, GUARD, GUARD + 2, GUARD + 3, 2 * GUARD + 2] {
+            let changed = |all: &mut [u8]| {
+                write(all);
+                all[place] ^= 1;
+            };
+            assert!(compared(0, None, changed).is_err(), "{place}");
+        }
+    }
+
+    #[test]
+    fn a_short_buffer_gets_13_and_nothing_else() {
+        let lent = Lent::new(&mut Rng::new(1), 1);
+        let compared = |answer| {
+            let written: &dyn Written = &("text", &lent, &b"05"[..]);
+            compare("writer", answer, None, &[], &[written])
+        };
+        assert!(compared(13).is_ok());
+        assert!(compared(0).is_err());
+    }
+}
