@@ -10,6 +10,8 @@ use second::generate::Rng;
 use second::lengths::fits;
 use second::Refusal;
 
+use crate::difference::{Compared, Difference, Given, Text, Words};
+
 /// Elements before and behind each buffer.
 const GUARD: usize = 16;
 
@@ -17,11 +19,20 @@ const GUARD: usize = 16;
 pub trait Filling: Copy + PartialEq + Debug {
     /// An element out of some random bits.
     fn filling(bits: u64) -> Self;
+
+    /// Some elements, to be read.
+    fn shown(elements: &[Self]) -> String {
+        format!("{elements:?}")
+    }
 }
 
 impl Filling for u8 {
     fn filling(bits: u64) -> u8 {
         bits.to_le_bytes()[0]
+    }
+
+    fn shown(elements: &[u8]) -> String {
+        format!("{:?}", Text(elements))
     }
 }
 
@@ -76,12 +87,27 @@ impl<T: Filling> Lent<T> {
         &mut self.now[GUARD..GUARD + self.length]
     }
 
-    /// Whether the buffer holds what is due, and all else is as it was before.
-    fn holds(&self, due: &[T]) -> bool {
-        let end = GUARD + due.len();
-        self.now[..GUARD] == self.before[..GUARD]
-            && self.now[GUARD..end] == *due
-            && self.now[end..] == self.before[end..]
+    /// What the buffer and its guards hold where so much is due: all else is as it was before.
+    fn due(&self, due: &[T]) -> Vec<T> {
+        let mut all = self.before.clone();
+        all[GUARD..GUARD + due.len()].copy_from_slice(due);
+        all
+    }
+
+    /// The buffer among such elements, and its guards if they aren't as they were before.
+    fn shown(&self, name: &str, all: &[T]) -> String {
+        let end = GUARD + self.length;
+        let mut shown = format!(
+            "\n{name}, {} elements lent: {}",
+            self.length,
+            T::shown(&all[GUARD..end])
+        );
+        for (place, guard) in [("before", 0..GUARD), ("behind", end..end + GUARD)] {
+            if self.now[guard.clone()] != self.before[guard.clone()] {
+                shown += &format!("\n{place} {name}: {}", T::shown(&all[guard]));
+            }
+        }
+        shown
     }
 }
 
@@ -107,59 +133,93 @@ impl<T: Filling> Number<T> {
     }
 }
 
-/// What was lent to a service, with what is due to it.
+/// What was lent to a service, with its name and what is due to it.
 pub trait Written {
+    /// What it is called.
+    fn name(&self) -> &'static str;
     /// Whether it is long enough.
     fn is_enough(&self) -> bool;
     /// Whether it holds what is due, or after a refusal what it held before.
     fn is_right(&self, answered: bool) -> bool;
+    /// What it should hold, and what it holds.
+    fn shown(&self, answered: bool) -> [String; 2];
 }
 
-impl<T: Filling> Written for (&Lent<T>, &[T]) {
+impl<T: Filling> Written for (&'static str, &Lent<T>, &[T]) {
+    fn name(&self) -> &'static str {
+        self.0
+    }
+
     fn is_enough(&self) -> bool {
-        fits(self.1.len(), self.0.length).is_ok()
+        fits(self.2.len(), self.1.length).is_ok()
     }
 
     fn is_right(&self, answered: bool) -> bool {
-        self.0.holds(if answered { self.1 } else { &[] })
+        self.1.now == self.1.due(if answered { self.2 } else { &[] })
+    }
+
+    fn shown(&self, answered: bool) -> [String; 2] {
+        let (name, lent) = (self.0, self.1);
+        let due = lent.due(if answered { self.2 } else { &[] });
+        [lent.shown(name, &due), lent.shown(name, &lent.now)]
     }
 }
 
-impl<T: Filling> Written for (&Number<T>, T) {
+impl<T: Filling> Written for (&'static str, &Number<T>, T) {
+    fn name(&self) -> &'static str {
+        self.0
+    }
+
     fn is_enough(&self) -> bool {
         true
     }
 
     fn is_right(&self, answered: bool) -> bool {
-        self.0.now == if answered { self.1 } else { self.0.before }
+        self.1.now == if answered { self.2 } else { self.1.before }
+    }
+
+    fn shown(&self, answered: bool) -> [String; 2] {
+        let (name, number) = (self.0, self.1);
+        let due = if answered { self.2 } else { number.before };
+        [due, number.now].map(|value| format!("\n{name}: {value:?}"))
     }
 }
 
 /// Compares a service's answer, and all that it was lent, with what is due: the refusal of
 /// the input if there is one, then 13 exactly if a buffer is short, else everything.
 pub fn compare(
-    service: &str,
+    service: &'static str,
     answer: u32,
     refusal: Option<Refusal>,
+    given: &Given,
     lent: &[&dyn Written],
-) -> Result<(), String> {
+) -> Compared {
     let short = lent.iter().any(|written| !written.is_enough());
     let due = match refusal {
         Some(refusal) => u32::from(refusal),
         None if short => 13,
         None => 0,
     };
-    if answer != due {
-        return Err(format!(
-            "{service}: the core answers {answer}, {due} is due"
-        ));
+    let wrong = lent.iter().find(|written| !written.is_right(due == 0));
+    let fault = match wrong {
+        _ if answer != due => format!("the core answers {answer}, {due} is due"),
+        Some(wrong) => format!("after the answer {answer} {} is wrong", wrong.name()),
+        None => return Ok(()),
+    };
+    let mut shown = [format!("answer {due}"), format!("answer {answer}")];
+    for written in lent {
+        for (all, one) in shown.iter_mut().zip(written.shown(due == 0)) {
+            all.push_str(&one);
+        }
     }
-    match lent.iter().position(|written| !written.is_right(due == 0)) {
-        Some(place) => Err(format!(
-            "{service}: after the answer {answer} the lent thing {place} is wrong"
-        )),
-        None => Ok(()),
-    }
+    let [due, answered] = &shown;
+    Err(Difference::new(
+        service,
+        fault,
+        given,
+        &Words(due),
+        &Words(answered),
+    ))
 }
 
 /// Lengths to lend buffers with to which so much is due: exact, one short, ample, empty.
@@ -194,4 +254,53 @@ fn four(more: usize, due: usize) -> [usize; 4] {
 /// matter.
 pub fn due_length<T>(rng: &mut Rng, due: Option<&[T]>) -> usize {
     due.map_or_else(|| rng.below(700), <[T]>::len)
+}
+
+#[cfg(test)]
+mod tests {
+    use super::*;
+
+    /// The comparison of a buffer of three elements, to which two are due, after a change.
+    fn compared(answer: u32, refusal: Option<Refusal>, change: impl Fn(&mut [u8])) -> Compared {
+        let mut lent = Lent::new(&mut Rng::new(1), 3);
+        change(&mut lent.now);
+        let due = &b"05"[..];
+        compare("writer", answer, refusal, &[], &[&("text", &lent, due)])
+    }
+
+    fn write(all: &mut [u8]) {
+        all[GUARD..GUARD + 2].copy_from_slice(b"05");
+    }
+
+    #[test]
+    fn what_is_due_is_no_difference() {
+        assert!(compared(0, None, write).is_ok());
+        assert!(compared(4, Some(4), |_| ()).is_ok());
+    }
+
+    #[test]
+    fn every_change_beyond_that_is_a_difference() {
+        assert!(compared(13, None, |_| ()).is_err());
+        assert!(compared(0, Some(4), write).is_err());
+        assert!(compared(4, Some(4), write).is_err());
+        assert!(compared(0, None, |_| ()).is_err());
+        for place in [0, GUARD - 1, GUARD, GUARD + 2, GUARD + 3, 2 * GUARD + 2] {
+            let changed = |all: &mut [u8]| {
+                write(all);
+                all[place] ^= 1;
+            };
+            assert!(compared(0, None, changed).is_err(), "{place}");
+        }
+    }
+
+    #[test]
+    fn a_short_buffer_gets_13_and_nothing_else() {
+        let lent = Lent::new(&mut Rng::new(1), 1);
+        let compared = |answer| {
+            let written: &dyn Written = &("text", &lent, &b"05"[..]);
+            compare("writer", answer, None, &[], &[written])
+        };
+        assert!(compared(13).is_ok());
+        assert!(compared(0).is_err());
+    }
 }

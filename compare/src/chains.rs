@@ -1,16 +1,16 @@
 //! Chains: check, reader and writer.
 
-use second::generate::{self, aimed_chain, chain_by_rule, changed_chain, Aim, Rng};
-use second::properties::judge_kept;
-use second::{columns, Chain, Network};
+use second::generate::{self, aimed_chain, chain_by_rule, changed_chain, Aim, Aimed, Rng};
+use second::{columns, Chain, Network, Refusal};
 use thinning::raw;
 
 use crate::buffers::{compare, due_length, lengths, Lent, Number};
-use crate::networks::{any_text, writer, MANY_VERTICES};
+use crate::difference::{Compared, Difference, Given, Text};
+use crate::networks::{any_text, judge, writer, MANY_VERTICES};
 
 /// The chain check on chains by rule, changed ones and ones with a fault aimed at, over an
 /// accepted network and over any text.
-pub fn checks(rng: &mut Rng) -> Result<(), String> {
+pub fn checks(rng: &mut Rng) -> Compared {
     let vertices = generate::size(rng);
     let network = generate::network(rng, vertices);
     let text = generate::text(&network);
@@ -18,10 +18,7 @@ pub fn checks(rng: &mut Rng) -> Result<(), String> {
     let mut chains = vec![by_rule(rng, &network), changed_chain(rng, &network)];
     let aim = rng.pick(&Aim::ALL);
     if let Some(aimed) = aimed_chain(rng, &network, aim) {
-        let due = second::check_chain(&text, &aimed.chain).err();
-        if due != aimed.refusal {
-            return Err(format!("{aim:?}: the second program answers {due:?}"));
-        }
+        meets(&text, aim, &aimed)?;
         chains.push(aimed.chain);
     }
     if seldom {
@@ -36,42 +33,77 @@ pub fn checks(rng: &mut Rng) -> Result<(), String> {
     check(rng, &other, &chains[0], true)
 }
 
+/// The second program finds the fault that was aimed at.
+pub fn meets(network: &[u8], aim: Aim, aimed: &Aimed) -> Compared {
+    let answer = second::check_chain(network, &aimed.chain).err();
+    if answer == aimed.refusal {
+        return Ok(());
+    }
+    let given: &Given = &[("network", &Text(network)), ("chain", &Text(&aimed.chain))];
+    let fault = format!("the second program itself misses {aim:?}");
+    let due = &aimed.refusal;
+    Err(Difference::new("chain check", fault, given, due, &answer))
+}
+
 fn by_rule(rng: &mut Rng, network: &Network) -> Vec<u8> {
     let chain = chain_by_rule(rng, network);
     second::write_chain(network.vertices, &chain).expect("the chain has all its steps")
 }
 
-fn check(rng: &mut Rng, network: &[u8], chain: &[u8], seldom: bool) -> Result<(), String> {
+fn check(rng: &mut Rng, network: &[u8], chain: &[u8], seldom: bool) -> Compared {
     let (kept_due, refusal) = match second::check_chain(network, chain) {
         Ok(kept) => (kept, None),
         Err(refusal) => (Vec::new(), Some(refusal)),
     };
     let due = due_length(rng, refusal.is_none().then_some(&kept_due[..]));
     for [length] in lengths(rng, [due], seldom) {
-        let mut kept = Lent::new(rng, length);
-        let mut written = Number::new(rng);
-        let answer = raw::check_chain(network, chain, kept.buffer(), written.place());
-        compare(
-            "chain check",
-            answer,
-            refusal,
-            &[&(&kept, &kept_due[..]), &(&written, kept_due.len())],
-        )?;
-        if answer == 0 {
-            let written = &kept.buffer()[..kept_due.len()];
-            judge_kept(network, written).map_err(|fault| format!("chain check: {fault}"))?;
-        }
+        check_into(rng, network, chain, &kept_due, refusal, length)?;
     }
     Ok(())
 }
 
+/// The chain check with a buffer of this length, where this kept text or this refusal is due.
+pub fn check_into(
+    rng: &mut Rng,
+    network: &[u8],
+    chain: &[u8],
+    kept_due: &[u8],
+    refusal: Option<Refusal>,
+    length: usize,
+) -> Compared {
+    let mut kept = Lent::new(rng, length);
+    let mut written = Number::new(rng);
+    let answer = raw::check_chain(network, chain, kept.buffer(), written.place());
+    compare(
+        "chain check",
+        answer,
+        refusal,
+        &[("network", &Text(network)), ("chain", &Text(chain))],
+        &[
+            &("kept", &kept, kept_due),
+            &("kept_written", &written, kept_due.len()),
+        ],
+    )?;
+    if answer != 0 {
+        return Ok(());
+    }
+    judge("chain check", network, &kept.buffer()[..kept_due.len()])
+}
+
 /// Reader and writer on columns with any numbers, which may differ in length, and on their
 /// texts, whole and damaged.
-pub fn texts_and_columns(rng: &mut Rng) -> Result<(), String> {
+pub fn texts_and_columns(rng: &mut Rng) -> Compared {
     let given = generate::chain_columns(rng);
     let (v, x, y) = (&given.v[..], &given.x[..], &given.y[..]);
     let text = columns::write_chain(given.vertices, v, x, y, given.dropped);
-    writer("chain writer", rng, &text, |text, written| {
+    let shown: &Given = &[
+        ("vertices", &given.vertices),
+        ("v", &v),
+        ("x", &x),
+        ("y", &y),
+        ("dropped", &given.dropped),
+    ];
+    writer("chain writer", rng, shown, &text, |text, written| {
         raw::write_chain(given.vertices, v, x, y, given.dropped, text, written)
     })?;
     // What was refused is read as the text of whole rows, for its wrong count.
@@ -93,7 +125,7 @@ fn rows(v: &[u16], x: &[u16], y: &[u16], dropped: u16) -> Vec<u8> {
     text
 }
 
-fn read(rng: &mut Rng, vertices: usize, text: &[u8]) -> Result<(), String> {
+fn read(rng: &mut Rng, vertices: usize, text: &[u8]) -> Compared {
     let (chain, refusal) = match second::read_chain(vertices, text) {
         Ok(chain) => (chain, None),
         Err(refusal) => (nothing(), Some(refusal)),
@@ -119,11 +151,12 @@ fn read(rng: &mut Rng, vertices: usize, text: &[u8]) -> Result<(), String> {
             "chain reader",
             answer,
             refusal,
+            &[("vertices", &vertices), ("chain", &Text(text))],
             &[
-                &(&v, &v_due[..]),
-                &(&x, &x_due[..]),
-                &(&y, &y_due[..]),
-                &(&dropped, chain.dropped),
+                &("v", &v, &v_due[..]),
+                &("x", &x, &x_due[..]),
+                &("y", &y, &y_due[..]),
+                &("dropped", &dropped, chain.dropped),
             ],
         )?;
     }

@@ -4,10 +4,11 @@ use second::generate::{self, NetworkAim, Rng, Shapeless};
 use thinning::raw;
 
 use crate::buffers::{compare, due_length, lengths, Lent, Number};
+use crate::difference::{Compared, Given, Text};
 use crate::networks::writer;
 
 /// The reader on texts of lists, whole, damaged and with a fault aimed at.
-pub fn texts(rng: &mut Rng) -> Result<(), String> {
+pub fn texts(rng: &mut Rng) -> Compared {
     let vertices = generate::size(rng);
     let network = generate::network(rng, vertices);
     let list = generate::list(rng, &network);
@@ -21,7 +22,7 @@ pub fn texts(rng: &mut Rng) -> Result<(), String> {
     read(rng, count, &text)
 }
 
-fn read(rng: &mut Rng, vertices: usize, text: &[u8]) -> Result<(), String> {
+fn read(rng: &mut Rng, vertices: usize, text: &[u8]) -> Compared {
     let (edges_due, refusal) = match second::read_list(vertices, text) {
         Ok(edges) => (edges, None),
         Err(refusal) => (Vec::new(), Some(refusal)),
@@ -35,23 +36,28 @@ fn read(rng: &mut Rng, vertices: usize, text: &[u8]) -> Result<(), String> {
             "list reader",
             answer,
             refusal,
-            &[&(&edges, &edges_due[..]), &(&count, edges_due.len())],
+            &[("vertices", &vertices), ("list", &Text(text))],
+            &[
+                &("edges", &edges, &edges_due[..]),
+                &("count", &count, edges_due.len()),
+            ],
         )?;
     }
     Ok(())
 }
 
 /// The writer on lists that rise and on others.
-pub fn meanings(rng: &mut Rng) -> Result<(), String> {
+pub fn meanings(rng: &mut Rng) -> Compared {
     let (vertices, edges) = generate::list_meaning(rng);
     let due = second::write_list(vertices, &edges);
-    writer("list writer", rng, &due, |text, written| {
+    let given: &Given = &[("vertices", &vertices), ("edges", &edges)];
+    writer("list writer", rng, given, &due, |text, written| {
         raw::write_list(vertices, &edges, text, written)
     })
 }
 
 /// The audit of lists over networks, accepted or not, over broken ones, and of damaged lists.
-pub fn audits(rng: &mut Rng) -> Result<(), String> {
+pub fn audits(rng: &mut Rng) -> Compared {
     let vertices = generate::size(rng).max(8);
     let network = generate::network(rng, vertices);
     let text = generate::text(&network);
@@ -74,7 +80,8 @@ pub fn audits(rng: &mut Rng) -> Result<(), String> {
     audit(rng, &broken, &list)
 }
 
-fn audit(rng: &mut Rng, network: &[u8], list: &[u8]) -> Result<(), String> {
+/// The audit of a list over a network, whatever both are.
+pub fn audit(rng: &mut Rng, network: &[u8], list: &[u8]) -> Compared {
     let due = second::audit(network, list);
     let (connected_due, reached_due, critical_due) = match due {
         Ok(audit) => (audit.connected, audit.reached, audit.critical),
@@ -94,10 +101,11 @@ fn audit(rng: &mut Rng, network: &[u8], list: &[u8]) -> Result<(), String> {
         "audit",
         answer,
         due.err(),
+        &[("network", &Text(network)), ("list", &Text(list))],
         &[
-            &(&connected, connected_due),
-            &(&reached, reached_due),
-            &(&critical, critical_due),
+            &("connected", &connected, connected_due),
+            &("reached", &reached, reached_due),
+            &("critical", &critical, critical_due),
         ],
     )
 }

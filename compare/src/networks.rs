@@ -7,6 +7,7 @@ use second::{columns, Network, Plan, Refusal};
 use thinning::raw;
 
 use crate::buffers::{compare, due_length, lengths, Lent, Number};
+use crate::difference::{Compared, Difference, Given, Text, Words};
 
 /// Plans and chain checks of networks with more vertices take long.
 pub const MANY_VERTICES: usize = 48;
@@ -39,15 +40,27 @@ pub fn any_text(rng: &mut Rng) -> Vec<u8> {
 }
 
 /// Check, plan and reader on any text.
-pub fn texts(rng: &mut Rng) -> Result<(), String> {
+pub fn texts(rng: &mut Rng) -> Compared {
     let text = any_text(rng);
-    let refusal = second::check_network(&text).err();
-    compare("network check", raw::check_network(&text), refusal, &[])?;
+    check(&text)?;
     plan(rng, &text)?;
     read(rng, &text)
 }
 
-fn plan(rng: &mut Rng, text: &[u8]) -> Result<(), String> {
+/// The network check.
+pub fn check(text: &[u8]) -> Compared {
+    let refusal = second::check_network(text).err();
+    let answer = raw::check_network(text);
+    compare(
+        "network check",
+        answer,
+        refusal,
+        &[("network", &Text(text))],
+        &[],
+    )
+}
+
+fn plan(rng: &mut Rng, text: &[u8]) -> Compared {
     let (plan, refusal) = match second::plan(text) {
         Ok(plan) => (Some(plan), None),
         Err(refusal) => (None, Some(refusal)),
@@ -63,13 +76,14 @@ fn plan(rng: &mut Rng, text: &[u8]) -> Result<(), String> {
     Ok(())
 }
 
-fn plan_into(
+/// The planner with buffers of these lengths, where this plan or this refusal is due.
+pub fn plan_into(
     rng: &mut Rng,
     text: &[u8],
     plan: Option<&Plan>,
     refusal: Option<Refusal>,
     lengths: [usize; 2],
-) -> Result<(), String> {
+) -> Compared {
     let mut chain = Lent::new(rng, lengths[0]);
     let mut kept = Lent::new(rng, lengths[1]);
     let (mut chain_written, mut kept_written) = (Number::new(rng), Number::new(rng));
@@ -85,21 +99,30 @@ fn plan_into(
         "plan",
         answer,
         refusal,
+        &[("network", &Text(text))],
         &[
-            &(&chain, chain_due),
-            &(&kept, kept_due),
-            &(&chain_written, chain_due.len()),
-            &(&kept_written, kept_due.len()),
+            &("chain", &chain, chain_due),
+            &("kept", &kept, kept_due),
+            &("chain_written", &chain_written, chain_due.len()),
+            &("kept_written", &kept_written, kept_due.len()),
         ],
     )?;
     if answer != 0 {
         return Ok(());
     }
-    let written = &kept.buffer()[..kept_due.len()];
-    judge_kept(text, written).map_err(|fault| format!("plan: {fault}"))
+    judge("plan", text, &kept.buffer()[..kept_due.len()])
 }
 
-fn read(rng: &mut Rng, text: &[u8]) -> Result<(), String> {
+/// What is promised of every kept text, judged without its chain.
+pub fn judge(service: &'static str, network: &[u8], kept: &[u8]) -> Compared {
+    judge_kept(network, kept).map_err(|fault| {
+        let given: &Given = &[("network", &Text(network))];
+        let due = Words("a kept text that keeps what is promised of it");
+        Difference::new(service, fault, given, &due, &Text(kept))
+    })
+}
+
+fn read(rng: &mut Rng, text: &[u8]) -> Compared {
     let (network, refusal) = match second::read_network(text) {
         Ok(network) => (network, None),
         Err(refusal) => (nothing(), Some(refusal)),
@@ -125,12 +148,13 @@ fn read(rng: &mut Rng, text: &[u8]) -> Result<(), String> {
             "network reader",
             answer,
             refusal,
+            &[("network", &Text(text))],
             &[
-                &(&low, &low_due[..]),
-                &(&high, &high_due[..]),
-                &(&cost, &cost_due[..]),
-                &(&vertices, network.vertices),
-                &(&reserved, network.reserved),
+                &("low", &low, &low_due[..]),
+                &("high", &high, &high_due[..]),
+                &("cost", &cost, &cost_due[..]),
+                &("vertices", &vertices, network.vertices),
+                &("reserved", &reserved, network.reserved),
             ],
         )?;
     }
@@ -147,23 +171,31 @@ fn nothing() -> Network {
 }
 
 /// The writer on columns, which may differ in length.
-pub fn columns(rng: &mut Rng) -> Result<(), String> {
+pub fn columns(rng: &mut Rng) -> Compared {
     let given = generate::network_columns(rng);
     let (vertices, reserved) = (given.vertices, given.reserved);
     let (low, high, cost) = (&given.low[..], &given.high[..], &given.cost[..]);
     let due = columns::write_network(vertices, reserved, low, high, cost);
-    writer("network writer", rng, &due, |text, written| {
+    let shown: &Given = &[
+        ("vertices", &vertices),
+        ("reserved", &reserved),
+        ("low", &low),
+        ("high", &high),
+        ("cost", &cost),
+    ];
+    writer("network writer", rng, shown, &due, |text, written| {
         raw::write_network(vertices, reserved, low, high, cost, text, written)
     })
 }
 
 /// Any writer, with buffers of every length.
 pub fn writer(
-    service: &str,
+    service: &'static str,
     rng: &mut Rng,
+    given: &Given,
     due: &Result<Vec<u8>, Refusal>,
     write: impl Fn(&mut [u8], &mut usize) -> u32,
-) -> Result<(), String> {
+) -> Compared {
     let (text_due, refusal) = match due {
         Ok(text) => (&text[..], None),
         Err(refusal) => (&[][..], Some(*refusal)),
@@ -173,12 +205,15 @@ pub fn writer(
         let mut text = Lent::new(rng, length);
         let mut written = Number::new(rng);
         let answer = write(text.buffer(), written.place());
-        let lent = (&text, text_due);
         compare(
             service,
             answer,
             refusal,
-            &[&lent, &(&written, text_due.len())],
+            given,
+            &[
+                &("text", &text, text_due),
+                &("written", &written, text_due.len()),
+            ],
         )?;
     }
     Ok(())

@@ -5,19 +5,29 @@ use std::path::{Path, PathBuf};
 use std::process::{Command, Stdio};
 
 use second::generate::Rng;
-use second::properties::judge_kept;
 use second::{plan_output, Method};
 
-use crate::networks;
+use crate::difference::{Compared, Difference, Given, Text, Words};
+use crate::networks::{any_text, judge};
+
+const SERVICE: &str = "plan program";
 
 /// The plan program, beside this folder.
 fn program() -> PathBuf {
     Path::new(env!("CARGO_MANIFEST_DIR")).join("../target/bin/plan")
 }
 
+/// The plan program with a stack of so many units of 1,024 bytes.
+fn program_on_stack(units: usize) -> Command {
+    let mut command = Command::new("sh");
+    let limited = format!("ulimit -s {units} && exec \"$0\"");
+    command.arg("-c").arg(limited).arg(program());
+    command
+}
+
 /// What a program writes for an input.
-fn output_of(program: &Path, input: &[u8]) -> io::Result<Vec<u8>> {
-    let mut child = Command::new(program)
+fn output_of(mut command: Command, input: &[u8]) -> io::Result<Vec<u8>> {
+    let mut child = command
         .stdin(Stdio::piped())
         .stdout(Stdio::piped())
         .spawn()?;
@@ -44,17 +54,45 @@ fn linked_output(text: &[u8]) -> Vec<u8> {
 
 /// The same bytes from the program, from the linked planner twice and from the second
 /// program, and a plan that keeps what is promised of it.
-pub fn plan(rng: &mut Rng) -> Result<(), String> {
-    let text = networks::any_text(rng);
-    let written = output_of(&program(), &text).map_err(|error| format!("plan program: {error}"))?;
-    if written != plan_output(&text, Method::Mixed) {
-        return Err("plan program: the outputs differ".to_owned());
-    }
-    if written != linked_output(&text) || written != linked_output(&text) {
-        return Err("plan program: the linked planner gives other bytes".to_owned());
+pub fn plan(rng: &mut Rng) -> Compared {
+    let text = any_text(rng);
+    let written = output_is_due(Command::new(program()), &text)?;
+    for linked in [linked_output(&text), linked_output(&text)] {
+        same(
+            "the linked planner gives other bytes",
+            &text,
+            &written,
+            &linked,
+        )?;
     }
     match second::plan(&text) {
-        Ok(plan) => judge_kept(&text, &plan.kept).map_err(|fault| format!("plan program: {fault}")),
+        Ok(plan) => judge(SERVICE, &text, &plan.kept),
         Err(_) => Ok(()),
     }
+}
+
+/// The same bytes from the program with a small stack and from the second program.
+pub fn plan_on_stack(text: &[u8], units: usize) -> Compared {
+    output_is_due(program_on_stack(units), text).map(|_| ())
+}
+
+/// What the program writes, which must be what the second program does.
+fn output_is_due(command: Command, text: &[u8]) -> Result<Vec<u8>, Difference> {
+    let due = plan_output(text, Method::Mixed);
+    let written = output_of(command, text).map_err(|error| {
+        let given: &Given = &[("network", &Text(text))];
+        let nothing = Words("nothing");
+        Difference::new(SERVICE, error.to_string(), given, &Text(&due), &nothing)
+    })?;
+    same("the outputs differ", text, &due, &written)?;
+    Ok(written)
+}
+
+fn same(fault: &str, text: &[u8], due: &[u8], answered: &[u8]) -> Compared {
+    if due == answered {
+        return Ok(());
+    }
+    let given: &Given = &[("network", &Text(text))];
+    let (due, answered) = (Text(due), Text(answered));
+    Err(Difference::new(SERVICE, fault, given, &due, &answered))
 }

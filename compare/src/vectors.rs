@@ -1,33 +1,40 @@
 //! The wrapper's own functions, whose answers come in vectors.
 
+use std::fmt::Debug;
+
 use second::generate::{self, chain_by_rule, changed_chain, Rng};
 use second::{columns, Refusal};
 
+use crate::difference::{Compared, Difference, Given, Text};
 use crate::networks::{any_text, MANY_VERTICES};
 
 /// The same answer from both, or refusals with the same number.
-fn same<T: PartialEq>(
-    service: &str,
+fn same<T: PartialEq + Debug>(
+    service: &'static str,
+    given: &Given,
     answer: Result<T, thinning::Refusal>,
     due: Result<T, Refusal>,
-) -> Result<(), String> {
-    if answer.map_err(thinning::Refusal::number) == due.map_err(u32::from) {
-        Ok(())
-    } else {
-        Err(format!("{service}: the wrapper's answer differs"))
+) -> Compared {
+    let answer = answer.map_err(thinning::Refusal::number);
+    let due = due.map_err(u32::from);
+    if answer == due {
+        return Ok(());
     }
+    let fault = "the wrapper's answer differs";
+    Err(Difference::new(service, fault, given, &due, &answer))
 }
 
 /// Check, plan, reader and writer of networks.
-pub fn networks(rng: &mut Rng) -> Result<(), String> {
+pub fn networks(rng: &mut Rng) -> Compared {
     let text = any_text(rng);
+    let shown: &Given = &[("network", &Text(&text))];
     let due = second::check_network(&text);
-    same("network check", thinning::check_network(&text), due)?;
-    let plan = thinning::plan(&text).map(|plan| (plan.chain, plan.kept));
-    let due = second::plan(&text).map(|plan| (plan.chain, plan.kept));
-    same("plan", plan, due)?;
+    same("network check", shown, thinning::check_network(&text), due)?;
+    let plan = thinning::plan(&text).map(|plan| [plan.chain, plan.kept].map(Text));
+    let due = second::plan(&text).map(|plan| [plan.chain, plan.kept].map(Text));
+    same("plan", shown, plan, due)?;
     let due = second::read_network(&text).map(by_columns);
-    same("network reader", thinning::read_network(&text), due)?;
+    same("network reader", shown, thinning::read_network(&text), due)?;
     let given = generate::network_columns(rng);
     let due = columns::write_network(
         given.vertices,
@@ -43,7 +50,9 @@ pub fn networks(rng: &mut Rng) -> Result<(), String> {
         high: given.high,
         cost: given.cost,
     };
-    same("network writer", thinning::write_network(&network), due)
+    let written = thinning::write_network(&network).map(Text);
+    let shown: &Given = &[("network", &network)];
+    same("network writer", shown, written, due.map(Text))
 }
 
 fn by_columns(network: second::Network) -> thinning::Network {
@@ -57,22 +66,25 @@ fn by_columns(network: second::Network) -> thinning::Network {
 }
 
 /// Check, reader and writer of chains.
-pub fn chains(rng: &mut Rng) -> Result<(), String> {
+pub fn chains(rng: &mut Rng) -> Compared {
     let vertices = generate::size(rng).min(MANY_VERTICES);
     let network = generate::network(rng, vertices);
     let text = generate::text(&network);
     let by_rule = second::write_chain(vertices, &chain_by_rule(rng, &network))
         .expect("the chain has all its steps");
     for chain in [by_rule, changed_chain(rng, &network)] {
-        let due = second::check_chain(&text, &chain);
-        same("chain check", thinning::check_chain(&text, &chain), due)?;
+        let shown: &Given = &[("network", &Text(&text)), ("chain", &Text(&chain))];
+        let kept = thinning::check_chain(&text, &chain).map(Text);
+        let due = second::check_chain(&text, &chain).map(Text);
+        same("chain check", shown, kept, due)?;
         let due = second::read_chain(vertices, &chain).map(|chain| thinning::Chain {
             v: chain.steps.iter().map(|step| step.v).collect(),
             x: chain.steps.iter().map(|step| step.x).collect(),
             y: chain.steps.iter().map(|step| step.y).collect(),
             dropped: chain.dropped,
         });
-        same("chain reader", thinning::read_chain(vertices, &chain), due)?;
+        let read = thinning::read_chain(vertices, &chain);
+        same("chain reader", shown, read, due)?;
     }
     let given = generate::chain_columns(rng);
     let due = columns::write_chain(given.vertices, &given.v, &given.x, &given.y, given.dropped);
@@ -82,27 +94,32 @@ pub fn chains(rng: &mut Rng) -> Result<(), String> {
         y: given.y,
         dropped: given.dropped,
     };
-    let text = thinning::write_chain(given.vertices, &chain);
-    same("chain writer", text, due)
+    let text = thinning::write_chain(given.vertices, &chain).map(Text);
+    let shown: &Given = &[("vertices", &given.vertices), ("chain", &chain)];
+    same("chain writer", shown, text, due.map(Text))
 }
 
 /// Reader and writer of lists, and the audit.
-pub fn lists(rng: &mut Rng) -> Result<(), String> {
+pub fn lists(rng: &mut Rng) -> Compared {
     let vertices = generate::size(rng);
     let network = generate::network(rng, vertices);
     let text = generate::text(&network);
     let edges = generate::list(rng, &network);
     let list = second::write_list(vertices, &edges).expect("the list rises");
     for list in [generate::damage(rng, &list), list] {
+        let shown: &Given = &[("network", &Text(&text)), ("list", &Text(&list))];
         let due = second::read_list(vertices, &list);
-        same("list reader", thinning::read_list(vertices, &list), due)?;
+        let read = thinning::read_list(vertices, &list);
+        same("list reader", shown, read, due)?;
         let answers = thinning::audit(&text, &list)
             .map(|audit| (audit.connected, audit.reached, audit.critical));
         let due = second::audit(&text, &list)
             .map(|audit| (audit.connected, audit.reached, audit.critical));
-        same("audit", answers, due)?;
+        same("audit", shown, answers, due)?;
     }
     let (vertices, edges) = generate::list_meaning(rng);
-    let due = second::write_list(vertices, &edges);
-    same("list writer", thinning::write_list(vertices, &edges), due)
+    let shown: &Given = &[("vertices", &vertices), ("edges", &edges)];
+    let due = second::write_list(vertices, &edges).map(Text);
+    let written = thinning::write_list(vertices, &edges).map(Text);
+    same("list writer", shown, written, due)
 }

@@ -33,16 +33,28 @@ pub enum Family {
     Circulant,
     /// Smaller networks glued along cuts of four edges.
     Glued,
+    /// A cycle with each edge doubled: every cut of two places is crossed by four.
+    DoubledCycle,
+    /// Pairs of vertices in a circle: two edges within each pair, two to the next one.
+    Ladder,
+    /// Rows and columns, each a cycle; a single row is taken twice.
+    Torus,
+    /// Four edges at each vertex, otherwise any, drawn until every cut is crossed by four.
+    Drawn,
 }
 
 impl Family {
     /// Every family.
-    pub const ALL: [Family; 5] = [
+    pub const ALL: [Family; 9] = [
         Family::TwoCycles,
         Family::Pinched,
         Family::PinchedNear,
         Family::Circulant,
         Family::Glued,
+        Family::DoubledCycle,
+        Family::Ladder,
+        Family::Torus,
+        Family::Drawn,
     ];
 
     /// A member of the family with at least two vertices.
@@ -56,6 +68,10 @@ impl Family {
             }
             Family::Circulant => circulant(rng, vertices),
             Family::Glued => glued(rng, vertices),
+            Family::DoubledCycle => torus(1, vertices),
+            Family::Ladder => ladder(vertices),
+            Family::Torus => torus(rows_of(vertices), vertices),
+            Family::Drawn => drawn(rng, vertices),
         };
         Multigraph { vertices, edges }
     }
@@ -152,6 +168,58 @@ fn open(graph: &Multigraph, start: usize) -> (Ends, Vec<usize>) {
         }
     }
     (edges, loose)
+}
+
+/// Pairs with two edges within; a vertex that is left over stands between the last pair and the first.
+fn ladder(vertices: usize) -> Ends {
+    if vertices < 4 {
+        return torus(1, vertices);
+    }
+    let pairs = (0..vertices / 2).map(|pair| (2 * pair, 2 * pair + 1));
+    let left_over = (vertices % 2 == 1).then_some((vertices - 1, vertices - 1));
+    let places: Vec<(usize, usize)> = pairs.chain(left_over).collect();
+    let mut edges = Ends::new();
+    for (place, &(a, b)) in places.iter().enumerate() {
+        let (c, d) = places[(place + 1) % places.len()];
+        edges.extend([(a, c), (b, d)]);
+        if a != b {
+            edges.extend([(a, b), (a, b)]);
+        }
+    }
+    edges
+}
+
+/// So many rows, which divide the vertices: each vertex is joined to the next one in its row and
+/// in its column.
+fn torus(rows: usize, vertices: usize) -> Ends {
+    let columns = vertices / rows;
+    (0..vertices)
+        .flat_map(|w| {
+            let (row, column) = (w / columns, w % columns);
+            let beside = row * columns + (column + 1) % columns;
+            let below = (w + columns) % vertices;
+            [(w, beside), (w, if rows == 1 { beside } else { below })]
+        })
+        .collect()
+}
+
+/// The most rows that aren't more than the columns.
+fn rows_of(vertices: usize) -> usize {
+    (1..=vertices)
+        .take_while(|rows| rows * rows <= vertices)
+        .filter(|rows| vertices.is_multiple_of(*rows))
+        .last()
+        .expect("one row divides all")
+}
+
+fn drawn(rng: &mut Rng, vertices: usize) -> Ends {
+    loop {
+        let edges = four_each(rng, vertices);
+        let graph = Multigraph { vertices, edges };
+        if graph.every_cut_by_flows(4) {
+            return graph.edges;
+        }
+    }
 }
 
 /// A way to make a network that reads, but that the check mostly refuses.

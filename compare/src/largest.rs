@@ -1,0 +1,225 @@
+//! The largest networks: 256 vertices, of every family, with a stack of 2 MB.
+//!
+//! All four services run on a thread with that stack and the plan program runs as a process
+//! with it, each held to the second program. A call that goes deeper ends the program.
+
+use std::fmt::Debug;
+use std::thread;
+
+use second::generate::{self, aimed_chain, Aim, CostStyle, Family, ListStyle, Rng};
+use second::lengths::LONGEST_NETWORK_TEXT;
+use second::{read_kept, write_chain, Network, Plan};
+
+use crate::difference::{Compared, Difference, Given, Text, Words};
+use crate::{chains, lists, networks, program};
+
+const VERTICES: usize = 256;
+const SEED: u64 = 1;
+/// Bytes of stack of the thread that calls the services.
+const THREAD_STACK: usize = 2_000_000;
+/// Units of 1,024 bytes of stack of the plan program; no more than 2 MB.
+const PROGRAM_STACK: usize = THREAD_STACK / 1_024;
+
+/// Which text gets a buffer that is a byte short. Each family has a network for either, and
+/// these have a wrong chain of another kind, so that the whole takes little time.
+#[derive(Clone, Copy, PartialEq, Eq)]
+enum Short {
+    Chain,
+    Kept,
+}
+
+/// A network of 256 vertices and its plan by the second program.
+struct Case {
+    network: Network,
+    short: Short,
+    text: Vec<u8>,
+    plan: Plan,
+}
+
+/// Runs all families, a line for each, and says how many differences were met.
+pub fn run() -> u64 {
+    let (mut networks, mut differences) = (0, 0);
+    for family in Family::ALL {
+        let (mut names, mut met) = (Vec::new(), 0);
+        for (name, compared) in family_networks(family, &mut networks) {
+            if let Err(difference) = compared {
+                met += 1;
+                let report = difference.report(&format!("largest-{family:?}-{name}"));
+                println!("{report}");
+            }
+            names.push(name);
+        }
+        println!("{family:?}: {}: {met} differences", names.join(", "));
+        differences += met;
+    }
+    println!("{networks} networks of {VERTICES} vertices, {differences} differences");
+    differences
+}
+
+/// The networks of a family by name, with what they give, and counted.
+fn family_networks(family: Family, counted: &mut usize) -> Vec<(String, Compared)> {
+    thread::scope(|scope| {
+        let threads = [Short::Chain, Short::Kept].map(|short| {
+            let place = *counted;
+            *counted += 1;
+            thread::Builder::new()
+                .stack_size(THREAD_STACK)
+                .spawn_scoped(scope, move || compare_network(family, short, place))
+                .expect("a thread starts")
+        });
+        threads
+            .map(|thread| thread.join().expect("a comparison gives an answer"))
+            .into()
+    })
+}
+
+/// Compares everything about one network, and says which it was. Styles of costs take turns,
+/// and so do the lowest reserved edge, the highest and any one.
+fn compare_network(family: Family, short: Short, place: usize) -> (String, Compared) {
+    let mut rng = Rng::new(SEED + place as u64);
+    let style = CostStyle::ALL[place % CostStyle::ALL.len()];
+    let mut network = generate::network_of(&mut rng, family, VERTICES, style);
+    match place % 3 {
+        0 => network.reserved = 0,
+        1 => network.reserved = network.edges.len() - 1,
+        _ => (),
+    }
+    let name = format!("{style:?}-{}", network.reserved);
+    let compared = case(network, short).and_then(|case| {
+        services(&mut rng, &case, place)?;
+        program::plan_on_stack(&case.text, PROGRAM_STACK)
+    });
+    (name, compared)
+}
+
+/// The network, if it has 256 vertices and is accepted by the second program.
+fn case(network: Network, short: Short) -> Result<Case, Difference> {
+    let text = generate::text(&network);
+    let plan = second::plan(&text);
+    match plan {
+        Ok(plan) if text.len() == LONGEST_NETWORK_TEXT && network.vertices == VERTICES => {
+            Ok(Case {
+                network,
+                short,
+                text,
+                plan,
+            })
+        }
+        _ => Err(not_meant(
+            "plan",
+            "an accepted network of 256 vertices",
+            &text,
+            &plan,
+        )),
+    }
+}
+
+/// The second program finds something else than the case was made for.
+fn not_meant(service: &'static str, meant: &str, text: &[u8], answer: &dyn Debug) -> Difference {
+    let given: &Given = &[("network", &Text(text))];
+    let fault = "the case is not what it is meant to be";
+    Difference::new(service, fault, given, &Words(meant), answer)
+}
+
+/// The four services.
+fn services(rng: &mut Rng, case: &Case, place: usize) -> Compared {
+    networks::check(&case.text)?;
+    plans(rng, case)?;
+    passing_chain(rng, case)?;
+    wrong_chain(rng, case, place)?;
+    audits(rng, case)
+}
+
+/// The planner with exact buffers, and with one that is a byte short.
+fn plans(rng: &mut Rng, case: &Case) -> Compared {
+    let (chain, kept) = (case.plan.chain.len(), case.plan.kept.len());
+    let short = match case.short {
+        Short::Chain => [chain - 1, kept],
+        Short::Kept => [chain, kept - 1],
+    };
+    for lengths in [[chain, kept], short] {
+        networks::plan_into(rng, &case.text, Some(&case.plan), None, lengths)?;
+    }
+    Ok(())
+}
+
+/// The check of the planner's chain gives the planner's kept text, or 13 a byte short of it.
+fn passing_chain(rng: &mut Rng, case: &Case) -> Compared {
+    let Plan { chain, kept } = &case.plan;
+    chains::check_into(rng, &case.text, chain, kept, None, kept.len())?;
+    match case.short {
+        Short::Chain => Ok(()),
+        Short::Kept => chains::check_into(rng, &case.text, chain, kept, None, kept.len() - 1),
+    }
+}
+
+/// A chain that is refused: at its end, or at any place.
+fn wrong_chain(rng: &mut Rng, case: &Case, place: usize) -> Compared {
+    let chain = match case.short {
+        Short::Chain => wrong_ending(case),
+        Short::Kept => aimed(rng, case, place)?,
+    };
+    match second::check_chain(&case.text, &chain) {
+        Err(refusal) => chains::check_into(rng, &case.text, &chain, &[], Some(refusal), 0),
+        Ok(kept) => Err(not_meant(
+            "chain check",
+            "a refusal",
+            &case.text,
+            &Text(kept),
+        )),
+    }
+}
+
+/// The planner's chain, but that it drops the reserved edge.
+fn wrong_ending(case: &Case) -> Vec<u8> {
+    let mut chain = second::read_chain(VERTICES, &case.plan.chain).expect("it is a chain");
+    chain.dropped = u16::try_from(case.network.reserved).expect("there are few edges");
+    write_chain(VERTICES, &chain).expect("it has all its steps")
+}
+
+/// A chain with a fault that the second program finds; the faults take turns.
+fn aimed(rng: &mut Rng, case: &Case, place: usize) -> Result<Vec<u8>, Difference> {
+    let aims = Aim::ALL.into_iter().cycle().skip(place);
+    let (aim, aimed) = aims
+        .filter(|aim| aim.refusal().is_some())
+        .find_map(|aim| Some((aim, aimed_chain(rng, &case.network, aim)?)))
+        .expect("some fault can be had");
+    chains::meets(&case.text, aim, &aimed)?;
+    Ok(aimed.chain)
+}
+
+/// The audit of lists that join all vertices, and of lists that don't.
+fn audits(rng: &mut Rng, case: &Case) -> Compared {
+    let network = &case.network;
+    let kept = read_kept(&case.plan.kept).expect("it is a kept text").edges;
+    let all: Vec<u16> = (0..).take(network.edges.len()).collect();
+    let alone = u16::try_from(rng.below(VERTICES)).expect("there are few vertices");
+    let (at_one, elsewhere): (Vec<u16>, Vec<u16>) = all.iter().partition(|&&number| {
+        let edge = network.edges[usize::from(number)];
+        edge.low == alone || edge.high == alone
+    });
+    let joined = [
+        kept[1..].to_vec(),
+        kept,
+        all,
+        generate::list_of(rng, network, ListStyle::Forest),
+    ];
+    for list in joined {
+        audit(rng, case, &list, true)?;
+    }
+    for list in [at_one, elsewhere, Vec::new()] {
+        audit(rng, case, &list, false)?;
+    }
+    Ok(())
+}
+
+/// The audit of a list that joins all vertices, or doesn't.
+fn audit(rng: &mut Rng, case: &Case, list: &[u16], joins: bool) -> Compared {
+    let list = second::write_list(VERTICES, list).expect("the list rises");
+    let audit = second::audit(&case.text, &list);
+    if audit.is_ok_and(|audit| audit.connected == joins) {
+        return lists::audit(rng, &case.text, &list);
+    }
+    let meant = format!("connected: {joins}");
+    Err(not_meant("audit", &meant, &case.text, &audit))
+}

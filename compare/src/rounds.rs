@@ -1,0 +1,98 @@
+//! Rounds of comparisons, each from a seed of its own.
+
+use std::io::{self, IsTerminal};
+use std::panic::{self, AssertUnwindSafe};
+
+use second::generate::Rng;
+
+use crate::difference::{Compared, Difference, Words};
+use crate::{chains, lists, networks, program, vectors};
+
+/// A part of a round and its name.
+type Part = (&'static str, fn(&mut Rng) -> Compared);
+
+const PARTS: [Part; 11] = [
+    ("program", program::plan),
+    ("network-texts", networks::texts),
+    ("network-columns", networks::columns),
+    ("chain-checks", chains::checks),
+    ("chain-texts-and-columns", chains::texts_and_columns),
+    ("list-texts", lists::texts),
+    ("list-meanings", lists::meanings),
+    ("audits", lists::audits),
+    ("network-vectors", vectors::networks),
+    ("chain-vectors", vectors::chains),
+    ("list-vectors", vectors::lists),
+];
+
+/// Runs all rounds, and says how many differences were met.
+pub fn run(rounds: u64, seed: u64) -> u64 {
+    let progress = Progress::new(rounds);
+    let mut differences = 0;
+    for done in 0..rounds {
+        progress.show(done, differences);
+        for report in round(seed + done) {
+            differences += 1;
+            progress.clear();
+            println!("{report}");
+        }
+    }
+    progress.clear();
+    println!("{rounds} rounds, {differences} differences");
+    differences
+}
+
+/// One round: every part starts from numbers of its own.
+fn round(seed: u64) -> Vec<String> {
+    let mut seeds = Rng::new(seed);
+    let mut reports = Vec::new();
+    for part in PARTS {
+        if let Err(difference) = answer(part, &mut Rng::new(seeds.bits())) {
+            reports.push(difference.report(&format!("seed-{seed}-{}", part.0)));
+        }
+    }
+    reports
+}
+
+/// What a part gives; a panic is a difference too.
+fn answer((name, part): Part, rng: &mut Rng) -> Compared {
+    panic::catch_unwind(AssertUnwindSafe(|| part(rng))).unwrap_or_else(|_| {
+        let (due, panic) = (Words("an answer"), Words("a panic"));
+        Err(Difference::new(name, "it panics", &[], &due, &panic))
+    })
+}
+
+/// Says on standard error how far the rounds are: a line now and then, or one line that is
+/// written again and again on a terminal.
+struct Progress {
+    rounds: u64,
+    on_terminal: bool,
+}
+
+impl Progress {
+    fn new(rounds: u64) -> Self {
+        Progress {
+            rounds,
+            on_terminal: io::stderr().is_terminal(),
+        }
+    }
+
+    fn show(&self, done: u64, differences: u64) {
+        let line = format!(
+            "{done} of {} rounds, {differences} differences",
+            self.rounds
+        );
+        if self.on_terminal && done.is_multiple_of(10) {
+            eprint!("\r{line}");
+        } else if !self.on_terminal && done > 0 && done.is_multiple_of(1_000) {
+            eprintln!("{line}");
+        }
+    }
+
+    /// Makes room for a line that stays.
+    fn clear(&self) {
+        if self.on_terminal {
+            eprint!("\r\x1b[K");
+        }
+    }
+}
