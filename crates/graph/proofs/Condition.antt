@@ -25,7 +25,7 @@ use Rattle.graph.proofs.Sums.{sum-ext, sum-ones, sum-bound, term-le, ea
 use Rattle.graph.proofs.EveryCut.{every-cut-sound}
 use Rattle.graph.proofs.Lifting.{lift-other, lift-length, lift-cuts, ratio-step, weight-after}
 use Rattle.graph.proofs.Endings.{end-good}
-use Rattle.graph.proofs.Rules.{step-ruled, ruled-step, Stepped, stepped, sound-step, ending-ruled, ruled-ending}
+use Rattle.graph.proofs.Rules.{step-ruled, ruled-step, Stepped, stepped, sound-step, sound-either, ending-ruled, ruled-ending}
 use Rattle.graph.proofs.Plans.{chosen-ruled, chosen-drop-passes}
 
 -- ── taking a verdict apart ──
@@ -152,6 +152,11 @@ fresh-remaining {g} fresh =
     ∙ sum-ext (g .vertices) (λ v. bit (here g v)) (λ v. 1) (λ v l. ap bit (fresh .all-here v l))
     ∙ sum-ones (g .vertices)
 
+-- a run of steps by rule leaves a sound network
+pub leads-sound : {g h : Network} {ts : List Step} → Sound g → Leads g ts h → Sound h
+leads-sound sound stays = sound
+leads-sound {ts = t ∷ ts} sound (goes more r l) = leads-sound (sound-step sound t (stepped sound (omega arith) t r)) l
+
 -- Condition 3 over meanings, whichever edge is reserved
 pub condition : {g : Network} → Fresh g → 2 ≤ g .vertices → networkRefusal g ≡ 0 → Condition g
 condition {g} fresh two h =
@@ -161,6 +166,7 @@ condition {g} fresh two h =
       rules = λ ts d. (λ p. passes-ruled ts sound d (p .0) (p .1), ruled-passes);
       good = λ ts d K. passes-good ts sound d K;
       exists = (planSteps n g, planDrop n g, (planKept n g, plan-checked n sound (omega (arith, fresh-remaining fresh))));
+      either = λ ts h l more t r. sound-either (leads-sound sound l) (omega arith) t r;
     }
 
 -- ── working costs ──

@@ -9,8 +9,7 @@ use lib.ListN.{length, getD, set}
 use lib.Signed.{leZ, ltZ, _≤ℤ_}
 use Rattle.graph.specs.Fold.{pick, without, among, tabulate}
 use Rattle.graph.specs.Network.{lowEnd, highEnd, costOf, here, touches}
-use Rattle.graph.specs.Cut.{EveryCut}
-use Rattle.graph.specs.Split.{partners, splitWith, admissible, third, after}
+use Rattle.graph.specs.Split.{partners, Admissible, admissible, third, after}
 use Rattle.graph.specs.declared.Network.{Network}
 use Rattle.graph.specs.declared.Step.{Step}
 
@@ -86,8 +85,8 @@ pub record StepByRule (g : Network) (t : Step) : Type 0 where
   pub x-partner : Partner g (t .v) (t .x)
   pub y-partner : Partner g (t .v) (t .y)
   pub different : t .x ≢ t .y
-  pub x-admissible : EveryCut 4 (splitWith g (t .v) (t .x))
-  pub y-admissible : EveryCut 4 (splitWith g (t .v) (t .y))
+  pub x-admissible : Admissible g (t .v) (t .x)
+  pub y-admissible : Admissible g (t .v) (t .y)
   pub no-cheaper : costOf g (t .y) ≤ℤ costOf g (t .x)
 
 -- one of the last three edges: it is neither retired nor reserved

@@ -7,7 +7,7 @@ use lib.ListN.{getD, set}
 use lib.IntN.{ℤ, pos, _-ℤ_}
 use Rattle.graph.specs.Fold.{pick, without}
 use Rattle.graph.specs.Network.{touches, far}
-use Rattle.graph.specs.Cut.{everyCut}
+use Rattle.graph.specs.Cut.{EveryCut, everyCut}
 use Rattle.graph.specs.declared.Network.{Network}
 use Rattle.graph.specs.declared.Step.{Step}
 
@@ -47,7 +47,11 @@ split g v x y z =
 unfoldable pub splitWith : Network → ℕ → ℕ → Network
 splitWith g v x = let others = without x (partners g v) in split g v x (getD others 0 0) (getD others 1 0)
 
--- partner x is admissible: every cut is then crossed by at least four
+-- document 01: admissible. After splitting with partner x every cut is crossed by at least four
+abbrev pub Admissible : Network → ℕ → ℕ → Type 0
+Admissible g v x = EveryCut 4 (splitWith g v x)
+
+-- the same as a test that computes
 unfoldable pub admissible : Network → ℕ → ℕ → Bool
 admissible g v x = everyCut 4 (splitWith g v x)
 
@@ -58,3 +62,7 @@ third g t = getD (without (t .y) (without (t .x) (partners g (t .v)))) 0 0
 -- the network after a step
 unfoldable pub after : Network → Step → Network
 after g t = split g (t .v) (t .x) (t .y) (third g t)
+
+-- a step with the partners that it names exchanged: it splits with y, and x retires with it
+abbrev pub swapped : Step → Step
+swapped t = record { v = t .v; x = t .y; y = t .x }
