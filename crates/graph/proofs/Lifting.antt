@@ -10,16 +10,16 @@ use lib.ListN.{length, length-set}
 use lib.Seq.{getD-set-same, getD-set-other, lt-length-set}
 use lib.IntN.{ℤ, pos, natAbs, _+ℤ_, _-ℤ_, _*ℤ_}
 use lib.Signed.{_≤ℤ_}
-use Rattle.graph.specs.Network.{costOf, here, costOver, kept, keptCost, allButReserved}
+use Rattle.graph.specs.Network.{costOf, here, costOver, kept, unreserved, keptCost, allButReserved}
 use Rattle.graph.specs.Cut.{Side, differ, crosses, crossingsOf, keptCrossings, Divides, EveryCutOf}
-use Rattle.graph.specs.Split.{split}
-use Rattle.graph.specs.Chain.{lift}
+use Rattle.graph.specs.Split.{costAfter, split}
+use Rattle.graph.specs.Chain.{xKept, lift}
 use Rattle.graph.specs.Sound.{Formed, Sound, weight}
 use Rattle.graph.specs.declared.Network.{Network}
 use Rattle.graph.proofs.Bools.{never, eqb-self, eqb-no}
 use Rattle.graph.proofs.Sums.{sum-change-four}
-use Rattle.graph.proofs.Integers.{P, N, plus, minus, times-P, times-N, halves, eqℤ, ≤ℤ-is, is-≤ℤ, size-minus, sumℤ-change-four}
-use Rattle.graph.proofs.Stars.{differ-same, Runs, runs-crosses, Star, cost-z, cost-x, cost-y, cost-other, cost-reserved, split-z, split-x, split-y, split-crosses}
+use Rattle.graph.proofs.Integers.{P, N, nothing, plus, minus, times-P, times-N, halves, eqℤ, ≤ℤ-is, is-≤ℤ, size-minus, sumℤ-change-four}
+use Rattle.graph.proofs.Stars.{differ-same, Runs, runs-crosses, Star, counted, cost-z, cost-x, cost-y, cost-other, cost-reserved, split-z, split-x, split-y, split-crosses}
 use Rattle.graph.proofs.Splitting.{still-here, far-here}
 
 -- ── the marks after going back ──
@@ -28,7 +28,7 @@ module _ {g : Network} {v x y z u a b c : ℕ} (s : Star g v x y z u a b c) (K :
   unfolding lift
   lift-other e nx ny = simp getD-set-other
 
-  lift-x : kept (lift x y z K) x ≡ not (kept K z)
+  lift-x : kept (lift x y z K) x ≡ xKept (kept K z)
   unfolding lift
   lift-x = let l : x < length K = omega (arith, s .four .x<) in simp (getD-set-same, lt-length-set)
 
@@ -45,11 +45,6 @@ module _ {g : Network} {v x y z u a b c : ℕ} (s : Star g v x y z u a b c) (K :
 pub lift-length : (x y z : ℕ) (K : List Bool) → length (lift x y z K) ≡ length K
 unfolding lift
 lift-length x y z K = simp length-set
-
--- a retired edge costs nothing, kept or not
-nothing : (t : Bool) → cond t (pos 0) (pos 0) ≡ pos 0
-nothing true = refl
-nothing false = refl
 
 -- ── costs ──
 module _ {g : Network} (f : Formed g) {v x y z u a b c : ℕ} (s : Star g v x y z u a b c) where
@@ -73,28 +68,25 @@ module _ {g : Network} (f : Formed g) {v x y z u a b c : ℕ} (s : Star g v x y 
   pub all-cost : allButReserved g ≡ allButReserved (split g v x y z) +ℤ costOf g x +ℤ costOf g x +ℤ costOf g y
   unfolding costOver split P N
   all-cost =
-      let p : ℕ → ℤ = λ e. cond (not (eqb e (g .reserved))) (costOf g e) (pos 0) in
-      let q : ℕ → ℤ = λ e. cond (not (eqb e (g .reserved))) (costOf (split g v x y z) e) (pos 0) in
+      let p : ℕ → ℤ = λ e. cond (unreserved g e) (costOf g e) (pos 0) in
+      let q : ℕ → ℤ = λ e. cond (unreserved g e) (costOf (split g v x y z) e) (pos 0) in
       let C = allButReserved (split g v x y z) in
       let cx = costOf g x in
       let cy = costOf g y in
       let cz = costOf g z in
       let w = s .four in
-      let apart : (e : ℕ) → g .reserved ≢ e → eqb e (g .reserved) ≡ false = λ e ne. eqb-no (λ k. ne (sym k)) in
-      let pr : p (g .reserved) ≡ pos 0 = rw (eqb-self (g .reserved)) in
-      let qr : q (g .reserved) ≡ pos 0 = rw (eqb-self (g .reserved)) in
-      let px : p x ≡ cx = rw (apart x (w .rx)) in
-      let qx : q x ≡ pos 0 = rw (apart x (w .rx)) (cost-x f s) in
-      let py : p y ≡ cy = rw (apart y (w .ry)) in
-      let qy : q y ≡ pos 0 = rw (apart y (w .ry)) (cost-y f s) in
-      let pz : p z ≡ cz = rw (apart z (w .rz)) in
-      let qz : q z ≡ cz -ℤ cx = rw (apart z (w .rz)) (cost-z f s) in
-      let e = sumℤ-change-four w p q (λ e l nr nx ny nz. ap (λ k. cond (not (eqb e (g .reserved))) k (pos 0)) (sym (cost-other f s e nx ny nz))) in
+      let pr : p (g .reserved) ≡ q (g .reserved) = rw (cost-reserved f s) in
+      let px : p x ≡ cx = ap (λ t. cond t cx (pos 0)) (counted g x (w .rx)) in
+      let qx : q x ≡ pos 0 = rw (cost-x f s) (nothing (unreserved g x)) in
+      let py : p y ≡ cy = ap (λ t. cond t cy (pos 0)) (counted g y (w .ry)) in
+      let qy : q y ≡ pos 0 = rw (cost-y f s) (nothing (unreserved g y)) in
+      let pz : p z ≡ cz = ap (λ t. cond t cz (pos 0)) (counted g z (w .rz)) in
+      let qz : q z ≡ costAfter cx cy cz = ap₂ (λ t k. cond t k (pos 0)) (counted g z (w .rz)) (cost-z f s) in
+      let e = sumℤ-change-four w p q (λ e l nr nx ny nz. ap (λ k. cond (unreserved g e) k (pos 0)) (sym (cost-other f s e nx ny nz))) in
       eqℤ _ _ (omega (
         arith,
         e,
         halves pr,
-        halves qr,
         halves px,
         halves qx,
         halves py,
@@ -119,14 +111,14 @@ module _ {g : Network} (f : Formed g) {v x y z u a b c : ℕ} (s : Star g v x y 
         let cy = costOf g y in
         let cz = costOf g z in
         let pr : p (g .reserved) ≡ q (g .reserved) = rw (lift-other s K room (g .reserved) (s .four .rx) (s .four .ry), (cost-reserved f s)) in
-        let px : p x ≡ cond (not (kept K z)) cx (pos 0) = rw (lift-x s K room) in
+        let px : p x ≡ cond (xKept (kept K z)) cx (pos 0) = rw (lift-x s K room) in
         let qx : q x ≡ pos 0 = rw (cost-x f s) (nothing (kept K x)) in
         let py : p y ≡ cy = rw (lift-y s K room) in
         let qy : q y ≡ pos 0 = rw (cost-y f s) (nothing (kept K y)) in
         let pz : p z ≡ cond (kept K z) cz (pos 0) = rw (lift-z s K room) in
-        let qz : q z ≡ cond (kept K z) (cz -ℤ cx) (pos 0) = rw (cost-z f s) in
+        let qz : q z ≡ cond (kept K z) (costAfter cx cy cz) (pos 0) = rw (cost-z f s) in
         let e = sumℤ-change-four (s .four) p q (λ e l nr nx ny nz. rw (lift-other s K room e nx ny, cost-other f s e nx ny nz)) in
-        let mid : p x +ℤ p z ≡ q z +ℤ cx = ap₂ _+ℤ_ px pz ∙ exchange (kept K z) cx cz ∙ ap (λ k. k +ℤ cx) (sym qz) in
+        let mid : p x +ℤ p z ≡ q z +ℤ cx = ap₂ _+ℤ_ px pz ∙ exchange (kept K z) cx cy cz ∙ ap (λ k. k +ℤ cx) (sym qz) in
         eqℤ _ _ (omega (
           arith,
           e,
@@ -141,9 +133,10 @@ module _ {g : Network} (f : Formed g) {v x y z u a b c : ℕ} (s : Star g v x y 
           plus (C +ℤ cx) cy,
         ))
       where
-        exchange : (t : Bool) (cx cz : ℤ) → cond (not t) cx (pos 0) +ℤ cond t cz (pos 0) ≡ cond t (cz -ℤ cx) (pos 0) +ℤ cx
-        exchange true cx cz = unfold P N in eqℤ _ _ (omega (arith, plus (pos 0) cz, minus cz cx, plus (cz -ℤ cx) cx))
-        exchange false cx cz = unfold P N in eqℤ _ _ (omega (arith, plus cx (pos 0), plus (pos 0) cx))
+        -- x and z are kept in one another's place
+        exchange : (z-kept : Bool) (cx cy cz : ℤ) → cond (xKept z-kept) cx (pos 0) +ℤ cond z-kept cz (pos 0) ≡ cond z-kept (costAfter cx cy cz) (pos 0) +ℤ cx
+        exchange true cx cy cz = unfold P N in eqℤ _ _ (omega (arith, plus (pos 0) cz, minus cz cx, plus (costAfter cx cy cz) cx))
+        exchange false cx cy cz = unfold P N in eqℤ _ _ (omega (arith, plus cx (pos 0), plus (pos 0) cx))
 
     -- the ratio goes back through a step with c(y) at most c(x)
     pub ratio-step : costOf g y ≤ℤ costOf g x → (pos 3 *ℤ keptCost (split g v x y z) K) ≤ℤ (pos 2 *ℤ allButReserved (split g v x y z))
@@ -225,7 +218,7 @@ divides-after g v x y z w S hw ne d e = go (S v) refl
 module _ {g : Network} (sound : Sound g) {v x y z u a b c : ℕ} (s : Star g v x y z u a b c) (v-here : here g v ≡ true)
     (K : List Bool) (room : g .edges ≤ length K) (free : kept K (g .reserved) ≡ false) where
   kept-crossings : (S : Side) → keptCrossings g (lift x y z K) S + cond (kept K z) (differ (S b) (S c)) 0
-      ≡ keptCrossings (split g v x y z) K S + (cond (not (kept K z)) (differ (S v) (S a)) 0 + differ (S v) (S b) + cond (kept K z) (differ (S v) (S c)) 0)
+      ≡ keptCrossings (split g v x y z) K S + (cond (xKept (kept K z)) (differ (S v) (S a)) 0 + differ (S v) (S b) + cond (kept K z) (differ (S v) (S c)) 0)
   unfolding crossingsOf split
   kept-crossings S =
       let f = sound .formed in
@@ -234,7 +227,7 @@ module _ {g : Network} (sound : Sound g) {v x y z u a b c : ℕ} (s : Star g v x
       let none : (t : Bool) (n : ℕ) → n ≡ 0 → cond t n 0 ≡ 0 = λ t n e. rw e (zero t) in
       let pr : p (g .reserved) ≡ 0 = rw (lift-other s K room (g .reserved) (s .four .rx) (s .four .ry), free) in
       let qr : q (g .reserved) ≡ 0 = rw free in
-      let px : p x ≡ cond (not (kept K z)) (differ (S v) (S a)) 0 = rw (lift-x s K room, runs-crosses S (s .to-a)) in
+      let px : p x ≡ cond (xKept (kept K z)) (differ (S v) (S a)) 0 = rw (lift-x s K room, runs-crosses S (s .to-a)) in
       let qx : q x ≡ 0 = none (kept K x) _ (runs-crosses S (split-x f s) ∙ differ-same (S v)) in
       let py : p y ≡ differ (S v) (S b) = rw (lift-y s K room, runs-crosses S (s .to-b)) in
       let qy : q y ≡ 0 = none (kept K y) _ (runs-crosses S (split-y f s) ∙ differ-same (S v)) in

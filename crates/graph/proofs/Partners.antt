@@ -181,8 +181,8 @@ module _ {g : Network} (sound : Sound g) {v o : ℕ} (v-here : here g v ≡ true
     partner-is : (e : ℕ) → isPartner g v e ≡ true → (touches g v e ≡ true) × (g .reserved ≢ e)
     unfolding isPartner
     partner-is e h = (
-      and-left (touches g v e) (not (eqb e (g .reserved))) h,
-      λ q. never (rw (q, eqb-self) at (and-right (touches g v e) (not (eqb e (g .reserved))) h)),
+      and-left (touches g v e) _ h,
+      λ q. never (rw (q, eqb-self) at (and-right (touches g v e) _ h)),
     )
 
     -- the star of the three partners

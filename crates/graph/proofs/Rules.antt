@@ -34,8 +34,8 @@ module _ (g : Network) (v e : ℕ) where
       let w = pick-among (g .edges) 0 (isPartner g v) e h in
       record {
         number = omega (arith, w .1);
-        at-v = touches-ends g v e (and-left (touches g v e) (not (eqb e (g .reserved))) (w .2));
-        not-reserved = λ q. never (rw (q, eqb-self) at (and-right (touches g v e) (not (eqb e (g .reserved))) (w .2)));
+        at-v = touches-ends g v e (and-left (touches g v e) _ (w .2));
+        not-reserved = λ q. never (rw (q, eqb-self) at (and-right (touches g v e) _ (w .2)));
       }
 
   pub of-partner : Partner g v e → among e (partners g v) ≡ true

@@ -46,9 +46,13 @@ marks g is = tabulate (length (g .low)) (λ e. among e is)
 unfoldable pub endKept : Network → ℕ → List Bool
 endKept g d = marks g (without d (lastEdges g))
 
--- going back through a step: y is kept, and x exactly if z is not
+-- going back through a step: x is kept exactly if z is not
+abbrev pub xKept : Bool → Bool
+xKept z-kept = not z-kept
+
+-- and y is kept
 unfoldable pub lift : ℕ → ℕ → ℕ → List Bool → List Bool
-lift x y z K = set (set K y true) x (not (getD K z false))
+lift x y z K = set (set K y true) x (xKept (getD K z false))
 
 -- what the check of a chain finds
 pub data Verdict : Type 0 where
@@ -73,11 +77,11 @@ check g (t ∷ ts) d =
 
 -- ── the rules, as a relation ──
 
--- edge e is a partner at v
-pub record Partner (g : Network) (v e : ℕ) : Type 0 where
-  pub number : e < g .edges
-  pub at-v : (lowEnd g e ≡ v) ⊎ (highEnd g e ≡ v)
-  pub not-reserved : e ≢ g .reserved
+-- edge p is a partner at v
+pub record Partner (g : Network) (v p : ℕ) : Type 0 where
+  pub number : p < g .edges
+  pub at-v : (lowEnd g p ≡ v) ⊎ (highEnd g p ≡ v)
+  pub not-reserved : p ≢ g .reserved
 
 -- a step by rule: two different admissible partners at an end of the reserved edge, the first no cheaper than the second
 pub record StepByRule (g : Network) (t : Step) : Type 0 where

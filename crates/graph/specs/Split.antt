@@ -23,9 +23,14 @@ partners g v = pick (g .edges) 0 (isPartner g v)
 abbrev pub splitEnds : List ℕ → ℕ → ℕ → ℕ → ℕ → ℕ → ℕ → ℕ → List ℕ
 splitEnds column r newR z newZ x y v = set (set (set (set column r newR) z newZ) x v) y v
 
--- the costs after a split: z costs c(z) - c(x), and retired edges nothing
+-- what z costs after a split, from the costs of x, y and z before it: c(z) - c(x)
+abbrev pub costAfter : ℤ → ℤ → ℤ → ℤ
+costAfter cx cy cz = cz -ℤ cx
+
+-- the costs after a split: z's new one, and nothing for retired edges
 abbrev pub splitCosts : List ℤ → ℕ → ℕ → ℕ → List ℤ
-splitCosts costs x y z = set (set (set costs z (getD costs z (pos 0) -ℤ getD costs x (pos 0))) x (pos 0)) y (pos 0)
+splitCosts costs x y z =
+    set (set (set costs z (costAfter (getD costs x (pos 0)) (getD costs y (pos 0)) (getD costs z (pos 0)))) x (pos 0)) y (pos 0)
 
 -- splitting off v with partner x, the others being y and z: the reserved edge runs on to the far end of x,
 -- z runs from the far end of y to its own, x and y retire, and v leaves
