@@ -1,14 +1,13 @@
 -- Going back through a step: the kept cost, the cost of all but the reserved edge, and the kept crossing count.
 use mathlib.Core.Path.{_≡_, refl, sym, _∙_, ap, ap₂}
 use mathlib.Core.Logic.{_≢_}
-use mathlib.Core.Bool.{Bool, true, false, not, cond}
+use mathlib.Core.Bool.{Bool, true, false, cond}
 use mathlib.Core.List.{List}
 use Prim.Native.Nat.{ℕ, _+_, _*_, _≤_, _<_}
 use native.Mathlib.Omega.{arith}
-use lib.Dec.{eqb}
 use lib.ListN.{length, length-set}
 use lib.Seq.{getD-set-same, getD-set-other, lt-length-set}
-use lib.IntN.{ℤ, pos, natAbs, _+ℤ_, _-ℤ_, _*ℤ_}
+use lib.IntN.{ℤ, pos, natAbs, _+ℤ_, _*ℤ_}
 use lib.Signed.{_≤ℤ_}
 use Rattle.graph.specs.Network.{costOf, here, costOver, kept, unreserved, keptCost, allButReserved}
 use Rattle.graph.specs.Cut.{Side, differ, crosses, crossingsOf, keptCrossings, Divides, EveryCutOf}
@@ -16,7 +15,7 @@ use Rattle.graph.specs.Split.{costAfter, split}
 use Rattle.graph.specs.Chain.{xKept, lift}
 use Rattle.graph.specs.Sound.{Formed, Sound, weight}
 use Rattle.graph.specs.declared.Network.{Network}
-use Rattle.graph.proofs.Bools.{never, eqb-self, eqb-no}
+use Rattle.graph.proofs.Bools.{never}
 use Rattle.graph.proofs.Sums.{sum-change-four}
 use Rattle.graph.proofs.Integers.{P, N, nothing, plus, minus, times-P, times-N, halves, eqℤ, ≤ℤ-is, is-≤ℤ, size-minus, sumℤ-change-four}
 use Rattle.graph.proofs.Stars.{differ-same, Runs, runs-crosses, Star, counted, cost-z, cost-x, cost-y, cost-other, cost-reserved, split-z, split-x, split-y, split-crosses}
@@ -48,22 +47,6 @@ lift-length x y z K = simp length-set
 
 -- ── costs ──
 module _ {g : Network} (f : Formed g) {v x y z u a b c : ℕ} (s : Star g v x y z u a b c) where
-  -- working costs: the sum of the sizes never grows
-  pub weight-after : weight (split g v x y z) ≤ weight g
-  unfolding weight split
-  weight-after =
-      let p : ℕ → ℕ = λ e. natAbs (costOf (split g v x y z) e) in
-      let q : ℕ → ℕ = λ e. natAbs (costOf g e) in
-      omega (
-        arith,
-        sum-change-four (s .four) p q (λ e l nr nx ny nz. ap natAbs (cost-other f s e nx ny nz)),
-        ap natAbs (cost-reserved f s),
-        ap natAbs (cost-x f s),
-        ap natAbs (cost-y f s),
-        ap natAbs (cost-z f s),
-        size-minus (costOf g z) (costOf g x),
-      )
-
   -- all but the reserved: before = after + 2 c(x) + c(y)
   pub all-cost : allButReserved g ≡ allButReserved (split g v x y z) +ℤ costOf g x +ℤ costOf g x +ℤ costOf g y
   unfolding costOver split P N
@@ -168,6 +151,22 @@ module _ {g : Network} (f : Formed g) {v x y z u a b c : ℕ} (s : Star g v x y 
           plus (A +ℤ cx) cx,
           plus (A +ℤ cx +ℤ cx) cy,
         ))
+
+  -- working costs: the sum of the sizes never grows
+  pub weight-after : weight (split g v x y z) ≤ weight g
+  unfolding weight split
+  weight-after =
+      let p : ℕ → ℕ = λ e. natAbs (costOf (split g v x y z) e) in
+      let q : ℕ → ℕ = λ e. natAbs (costOf g e) in
+      omega (
+        arith,
+        sum-change-four (s .four) p q (λ e l nr nx ny nz. ap natAbs (cost-other f s e nx ny nz)),
+        ap natAbs (cost-reserved f s),
+        ap natAbs (cost-x f s),
+        ap natAbs (cost-y f s),
+        ap natAbs (cost-z f s),
+        size-minus (costOf g z) (costOf g x),
+      )
 
 -- ── crossing counts ──
 
