@@ -38,6 +38,9 @@ and-right true b h = h
 and-right false true h = refl
 and-right false false h = h
 
+pub and-both : {a b : Bool} → a ≡ true → b ≡ true → (a && b) ≡ true
+and-both p q = rw (p, q)
+
 pub or-right : (a b : Bool) → (a || b) ≡ true → a ≡ false → b ≡ true
 or-right true b h e = never (sym e)
 or-right false b h e = h

@@ -23,7 +23,7 @@ use Rattle.graph.proofs.Bools.{never, eqb-is}
 use Rattle.graph.proofs.Sums.{sum-ext, sum-ones, sum-bound, term-le, each-at}
 use Rattle.graph.proofs.EveryCut.{every-cut-sound}
 use Rattle.graph.proofs.Lifting.{weight-after}
-use Rattle.graph.proofs.Rules.{ruled-step, Stepped, stepped, sound-step}
+use Rattle.graph.proofs.Rules.{ruled-step, Stepped, stepped, sound-step, sound-either}
 use Rattle.graph.proofs.Checking.{passes-ruled, ruled-passes}
 use Rattle.graph.proofs.Backs.{back-good, check-back, back-one, back-check}
 use Rattle.graph.proofs.Plans.{chosen-ruled, chosen-drop-passes}
@@ -69,6 +69,11 @@ fresh-remaining {g} fresh =
     ∙ sum-ext (g .vertices) (λ v. bit (here g v)) (λ v. 1) (λ v l. ap bit (fresh .all-here v l))
     ∙ sum-ones (g .vertices)
 
+-- a run of steps by rule leaves a sound network
+pub leads-sound : {g h : Network} {ts : List Step} → Sound g → Leads g ts h → Sound h
+leads-sound sound stays = sound
+leads-sound {ts = t ∷ ts} sound (goes more r l) = leads-sound (sound-step sound t (stepped sound (omega arith) t r)) l
+
 -- Condition 3 over meanings, whichever edge is reserved
 pub condition : {g : Network} → Fresh g → 2 ≤ g .vertices → networkRefusal g ≡ 0 → Condition g
 condition {g} fresh two h =
@@ -80,6 +85,7 @@ condition {g} fresh two h =
       one = λ ts d r. let w = ruled-passes r in let b = check-back sound r (w .1) in (w .0, b, λ L c. back-one sound r c b);
       good = λ ts d K r b. back-good sound r b;
       exists = (planSteps n g, planDrop n g, passes-ruled (planSteps n g) sound (planDrop n g) (planKept n g) passes);
+      either = λ ts h l more t r. sound-either (leads-sound sound l) (omega arith) t r;
     }
 
 -- ── working costs ──

@@ -10,7 +10,7 @@ use lib.Dec.{eqb}
 use lib.IntN.{ℤ, pos, _*ℤ_}
 use lib.Signed.{leZ, _≤ℤ_}
 use Rattle.graph.specs.Fold.{among}
-use Rattle.graph.specs.Network.{lowEnd, highEnd, costOf, here, touches, endsAt, costOver, kept, keptCost, allButReserved}
+use Rattle.graph.specs.Network.{lowEnd, highEnd, costOf, here, touches, endsAt, costOver, kept, unreserved, keptCost, allButReserved}
 use Rattle.graph.specs.Cut.{Side, differ, crosses, crossingsOf, Divides, EveryCutOf}
 use Rattle.graph.specs.Split.{isPartner, partners}
 use Rattle.graph.specs.Chain.{lastEdges, dearest, LastEdge, EndingByRule}
@@ -20,8 +20,8 @@ use Rattle.graph.specs.Condition.{Good}
 use Rattle.graph.specs.declared.Network.{Network}
 use Rattle.graph.proofs.Bools.{never, eqb-self, eqb-no, and-left, and-right}
 use Rattle.graph.proofs.Sums.{sum-change-four, sum-zeros, pick-ext, pick-among, among-pick}
-use Rattle.graph.proofs.Integers.{P, N, times-P, times-N, ≤ℤ-is, is-≤ℤ, sumℤ-four}
-use Rattle.graph.proofs.Stars.{Runs, runs-crosses, Star}
+use Rattle.graph.proofs.Integers.{P, N, nothing, times-P, times-N, ≤ℤ-is, is-≤ℤ, sumℤ-four}
+use Rattle.graph.proofs.Stars.{counted, Runs, runs-crosses, Star}
 use Rattle.graph.proofs.Partners.{another, no-third, touch-ends, touches-at, touches-ends, no-loop, runs-here, three-partners, star, Chosen, chosen, among-without}
 
 -- a dearest of a list is dearer than each of it
@@ -194,10 +194,10 @@ module _ {g : Network} (sound : Sound g) (two : g .remaining ≡ 2) where
     all-is : P (allButReserved g) + (N (costOf g d) + N (costOf g (w .y)) + N (costOf g (w .z))) ≡ N (allButReserved g) + (P (costOf g d) + P (costOf g (w .y)) + P (costOf g (w .z)))
     unfolding costOver P N
     all-is =
-        let p : ℕ → ℤ = λ e. cond (not (eqb e (g .reserved))) (costOf g e) (pos 0) in
+        let p : ℕ → ℤ = λ e. cond (unreserved g e) (costOf g e) (pos 0) in
         let q = s .four in
-        let apart : (e : ℕ) → g .reserved ≢ e → p e ≡ costOf g e = λ e ne. rw (eqb-no (λ (k : e ≡ g .reserved). ne (sym k))) in
-        let z = sumℤ-four q p (λ e l nr nx ny nz. rw (eqb-no nr) (costless e l (s .rest e l nr nx ny nz))) (pos 0) (costOf g d) (costOf g (w .y)) (costOf g (w .z)) (rw (eqb-self (g .reserved))) (apart d (q .rx)) (apart (w .y) (q .ry)) (apart (w .z) (q .rz)) in
+        let apart : (e : ℕ) → g .reserved ≢ e → p e ≡ costOf g e = λ e ne. ap (λ t. cond t (costOf g e) (pos 0)) (counted g e ne) in
+        let z = sumℤ-four q p (λ e l nr nx ny nz. rw (costless e l (s .rest e l nr nx ny nz)) (nothing (unreserved g e))) (pos 0) (costOf g d) (costOf g (w .y)) (costOf g (w .z)) (rw (eqb-self (g .reserved))) (apart d (q .rx)) (apart (w .y) (q .ry)) (apart (w .z) (q .rz)) in
         omega (arith, z)
 
     -- twice a dearest is no less than the two others, so three times these are at most twice all three

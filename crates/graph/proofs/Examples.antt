@@ -14,7 +14,7 @@ use Rattle.graph.specs.Split.{isPartner, partners, split, splitWith, adm
 use Rattle.graph.specs.Chain.{stepRefusal, lastEdges, dearest, endRefusal, marks, endKept, lift, Verdict, refused, keeps, liftVerdict, unless, check}
 use Rattle.graph.specs.Plan.{chosenVertex, ordered, chosenStep, dearestOf, chosenDrop, planSteps, planDrop}
 use Rattle.graph.specs.Connection.{leads, grown, within, reached, connected, reachedCount, critical, criticalCount}
-use Rattle.graph.specs.Districts.{District, T, Case, plans, breaks, refuses, table, Audit, audits, every}
+use Rattle.graph.specs.Districts.{District, T, Case, plans, breaks, refuses, table, unmarked, Audit, audits, every}
 use Rattle.graph.specs.declared.Network.{Network}
 use Rattle.graph.specs.declared.Step.{Step}
 use Rattle.graph.proofs.Bools.{and-left, and-right}
@@ -79,6 +79,11 @@ auditHolds row =
 pub examples : every holds table ≡ true
 unfolding every networkOf stepOf sameNumbers sameCost sameSteps keepsJust refusedBy holds fold pick only among tabulate endsAt degree touches far costOver differ crosses crossingsOf everySide somewhere crossedBy everyCutOf fourEach networkRefusal isPartner partners split splitWith admissible third after stepRefusal lastEdges dearest endRefusal marks endKept lift liftVerdict unless check chosenVertex ordered chosenStep dearestOf chosenDrop planSteps planDrop
 examples = refl
+
+-- y is tested as x is
+pub y-tested : every holds unmarked ≡ true
+unfolding every networkOf stepOf refusedBy holds fold pick only among touches far differ crosses crossingsOf everySide somewhere crossedBy everyCutOf isPartner partners split splitWith admissible stepRefusal liftVerdict unless check
+y-tested = refl
 
 -- the audits, which document 01 does not mark
 pub audited : every auditHolds audits ≡ true

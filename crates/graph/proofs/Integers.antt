@@ -1,6 +1,6 @@
 -- Linear arithmetic over ℤ by omega: an integer a is P a - N a, and each sum or difference is handed over as a fact of naturals.
 use mathlib.Core.Path.{_≡_, refl, sym, _∙_, ap}
-use mathlib.Core.Bool.{Bool, true, false}
+use mathlib.Core.Bool.{Bool, true, false, cond}
 use Prim.Native.Nat.{ℕ, zero, suc, _+_, _*_, _≤_, _<_}
 use native.Mathlib.Omega.{arith}
 use lib.Dec.{ltb}
@@ -158,6 +158,11 @@ sumℤ-change-four {n} q f g h = omega (
   sum-change-four q (λ i. P (f i)) (λ i. P (g i)) (λ i l a b c d. ap P (h i l a b c d)),
   sum-change-four q (λ i. N (f i)) (λ i. N (g i)) (λ i l a b c d. ap N (h i l a b c d)),
 )
+
+-- an edge at no cost adds nothing, counted or not
+pub nothing : (t : Bool) → cond t (pos 0) (pos 0) ≡ pos 0
+nothing true = refl
+nothing false = refl
 
 pub sumℤ-zeros : (n : ℕ) → sumℤ n (λ i. pos 0) ≡ pos 0
 unfolding fold

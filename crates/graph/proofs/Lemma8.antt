@@ -1,5 +1,5 @@
 -- Lemma 8: at least two of the three partners are admissible.
-use mathlib.Core.Path.{_≡_, refl, sym, _∙_, ap}
+use mathlib.Core.Path.{_≡_, refl, _∙_, ap}
 use mathlib.Core.Logic.{_≢_}
 use mathlib.Core.Bool.{Bool, true, false, not, _&&_, _||_}
 use mathlib.Core.List.{[], _∷_}
@@ -8,8 +8,8 @@ use native.Mathlib.Omega.{arith}
 use lib.Dec.{leb, leb→le}
 use Rattle.graph.specs.Fold.{bit, without}
 use Rattle.graph.specs.Network.{lowEnd, highEnd, here, touches}
-use Rattle.graph.specs.Cut.{Side, differ, crosses, crossingsOf, crossings, Divides, everyCut}
-use Rattle.graph.specs.Split.{partners, split, splitWith, admissible}
+use Rattle.graph.specs.Cut.{Side, differ, crosses, crossingsOf, crossings, Divides}
+use Rattle.graph.specs.Split.{partners, split, admissible}
 use Rattle.graph.specs.Sound.{Sound}
 use Rattle.graph.specs.declared.Network.{Network}
 use Rattle.graph.proofs.Bools.{eqb-no, table-at}
@@ -18,7 +18,7 @@ use Rattle.graph.proofs.EveryCut.{every-cut-fails}
 use Rattle.graph.proofs.Stars.{put, put-same, put-other, Star, swap-others, swap-first, crossings-put, crossings-split}
 use Rattle.graph.proofs.Parity.{sound-even}
 use Rattle.graph.proofs.Partners.{star, first-others, second-others, third-others}
-use Rattle.graph.proofs.Splitting.{split-here, far-here, joins-after, crossings-here}
+use Rattle.graph.proofs.Splitting.{split-with, split-here, far-here, joins-after, crossings-here}
 
 -- ── crossing counts are symmetric and submodular ──
 pub crossings-not : (g : Network) (S : Side) → crossings g (λ v. not (S v)) ≡ crossings g S
@@ -117,8 +117,11 @@ module _ {g : Network} (sound : Sound g) {v x y z u a b c : ℕ} (s : Star g v x
       )
 
   -- where x is not admissible, some side speaks against it
-  pub spoken-against : everyCut 4 (split g v x y z) ≡ false → (U : Side) × Tight g v u a b c U
-  spoken-against h = let w = every-cut-fails 4 (split g v x y z) (λ e. true) h in go (w .0) (w .1) (w .2) (w .0 u) refl
+  pub spoken-against : without x (partners g v) ≡ y ∷ z ∷ [] → admissible g v x ≡ false → (U : Side) × Tight g v u a b c U
+  unfolding admissible
+  spoken-against others h =
+      let w = every-cut-fails _ (split g v x y z) (λ e. true) (rw (split-with g v x others) at h) in
+      go (w .0) (w .1) (omega (arith, w .2)) (w .0 u) refl
     where
       go : (S : Side) → Divides (split g v x y z) S → crossings (split g v x y z) S < 4 → (t : Bool) → S u ≡ t → (U : Side) × Tight g v u a b c U
       go S d k true e = tight-of S e d k
@@ -147,11 +150,6 @@ module _ {g : Network} (sound : Sound g) {v x y z u a b c : ℕ} (s : Star g v x
 other-way : {g : Network} {v u a b c : ℕ} → (U : Side) × Tight g v u a b c U → (U : Side) × Tight g v u a c b U
 other-way w = let t = w .1 in (w .0, record { v-out = t .v-out; u-in = t .u-in; a-in = t .a-in; b-out = t .c-out; c-out = t .b-out; four = t .four })
 
--- ── what `admissible` asks of a partner with the others y, z ──
-pub admissible-is : (g : Network) (v x y z : ℕ) → without x (partners g v) ≡ y ∷ z ∷ [] → admissible g v x ≡ everyCut 4 (split g v x y z)
-unfolding admissible splitWith
-admissible-is g v x y z e = rw e
-
 two-of-three : (a b c : Bool) → (a ≡ false → b ≡ false → ⊥) → (a ≡ false → c ≡ false → ⊥) → (b ≡ false → c ≡ false → ⊥) → 2 ≤ bit a + bit b + bit c
 two-of-three true true c p q w = omega arith
 two-of-three true false true p q w = omega arith
@@ -167,13 +165,13 @@ lemma8 {g} sound {v} {o} hv ho ne held {x} {y} {z} e =
     let s = star sound hv ho ne held e in
     let sy = swap-first s in
     let sz = swap-first (swap-others s) in
-    let ax = admissible-is g v x y z (first-others s e) in
-    let ay = admissible-is g v y x z (second-others s e) in
-    let az = admissible-is g v z x y (third-others s e) in
+    let ax = spoken-against sound s hv (first-others s e) in
+    let ay = spoken-against sound sy hv (second-others s e) in
+    let az = spoken-against sound sz hv (third-others s e) in
     two-of-three (admissible g v x) (admissible g v y) (admissible g v z)
-    (λ p q. let S = spoken-against sound s hv (sym ax ∙ p) in let U = spoken-against sound sy hv (sym ay ∙ q) in
+    (λ p q. let S = ax p in let U = ay q in
     not-both sound s hv (S .0) (U .0) (S .1) (U .1))
-    (λ p q. let S = other-way (spoken-against sound s hv (sym ax ∙ p)) in let U = spoken-against sound sz hv (sym az ∙ q) in
+    (λ p q. let S = other-way (ax p) in let U = az q in
     not-both sound (swap-others s) hv (S .0) (U .0) (S .1) (U .1))
-    (λ p q. let S = other-way (spoken-against sound sy hv (sym ay ∙ p)) in let U = other-way (spoken-against sound sz hv (sym az ∙ q)) in
+    (λ p q. let S = other-way (ay p) in let U = other-way (az q) in
     not-both sound (swap-others sy) hv (S .0) (U .0) (S .1) (U .1))

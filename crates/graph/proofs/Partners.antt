@@ -1,7 +1,7 @@
 -- A vertex of a sound network has four edges to other vertices; at an end of the reserved edge, that edge and three partners.
 use mathlib.Core.Path.{_≡_, refl, sym, _∙_, ap}
 use mathlib.Core.Logic.{_≢_, _⊎_, inl, inr, ⊎-elim}
-use mathlib.Core.Bool.{Bool, true, false, not, cond, _&&_, _||_, and-true, or-true, or-false}
+use mathlib.Core.Bool.{Bool, true, false, cond, _&&_, _||_, and-true, or-true, or-false}
 use mathlib.Core.List.{List, [], _∷_}
 use Prim.Native.Nat.{ℕ, suc, _+_, _*_, _≤_, _<_}
 use native.Mathlib.Omega.{arith}
@@ -181,8 +181,8 @@ module _ {g : Network} (sound : Sound g) {v o : ℕ} (v-here : here g v ≡ true
     partner-is : (e : ℕ) → isPartner g v e ≡ true → (touches g v e ≡ true) × (g .reserved ≢ e)
     unfolding isPartner
     partner-is e h = (
-      and-left (touches g v e) (not (eqb e (g .reserved))) h,
-      λ q. never (rw (q, eqb-self) at (and-right (touches g v e) (not (eqb e (g .reserved))) h)),
+      and-left (touches g v e) _ h,
+      λ q. never (rw (q, eqb-self) at (and-right (touches g v e) _ h)),
     )
 
     -- the star of the three partners

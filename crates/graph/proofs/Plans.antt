@@ -8,11 +8,10 @@ use native.Mathlib.Omega.{arith}
 use native.Mathlib.Decide.{decLe}
 use lib.ListN.{length, getD}
 use lib.IntN.{ℤ}
-use lib.Signed.{leZ, ltZ}
+use lib.Signed.{_≤ℤ_, leZ, ltZ}
 use Rattle.graph.specs.Fold.{bit, only, among}
 use Rattle.graph.specs.Network.{lowEnd, highEnd, costOf, touches}
-use Rattle.graph.specs.Cut.{EveryCut}
-use Rattle.graph.specs.Split.{partners, splitWith, admissible}
+use Rattle.graph.specs.Split.{partners, admissible}
 use Rattle.graph.specs.Chain.{lastEdges, dearest, endRefusal, StepByRule}
 use Rattle.graph.specs.Plan.{chosenVertex, ordered, chosenStep, dearestOf, chosenDrop}
 use Rattle.graph.specs.Sound.{Sound}
@@ -87,28 +86,21 @@ ordered-ruled : {g : Network} → Sound g → 2 ≤ g .remaining → (v i j : �
 unfolding ordered
 ordered-ruled {g} sound two v i j held w = go (ltZ (costOf g i) (costOf g j)) refl
   where
-    cuts : (x : ℕ) → among x (partners g v) ≡ true → admissible g v x ≡ true → EveryCut 4 (splitWith g v x)
-    cuts x m h = admissible-sound sound two v held x m h
+    by : (x y : ℕ) → among x (partners g v) ≡ true → among y (partners g v) ≡ true → x ≢ y → admissible g v x ≡ true → admissible g v y ≡ true
+        → costOf g y ≤ℤ costOf g x → StepByRule g (record { v = v; x = x; y = y })
+    by x y x-in y-in ne x-ok y-ok le = record {
+      at-end = touches-ends g v (g .reserved) held;
+      x-partner = partner-of g v x x-in;
+      y-partner = partner-of g v y y-in;
+      different = ne;
+      x-admissible = admissible-sound sound two v held _ (search) (search);
+      y-admissible = admissible-sound sound two v held _ (search) (search);
+      no-cheaper = le;
+    }
 
     go : (t : Bool) → ltZ (costOf g i) (costOf g j) ≡ t → StepByRule g (cond t (record { v = v; x = j; y = i }) (record { v = v; x = i; y = j }))
-    go true e = record {
-      at-end = touches-ends g v (g .reserved) held;
-      x-partner = partner-of g v j (w .j-in);
-      y-partner = partner-of g v i (w .i-in);
-      different = λ k. w .i≢j (sym k);
-      x-admissible = cuts j (w .j-in) (w .j-ok);
-      y-admissible = cuts i (w .i-in) (w .i-ok);
-      no-cheaper = is-≤ℤ (omega (arith, lt-is (costOf g i) (costOf g j) e));
-    }
-    go false e = record {
-      at-end = touches-ends g v (g .reserved) held;
-      x-partner = partner-of g v i (w .i-in);
-      y-partner = partner-of g v j (w .j-in);
-      different = w .i≢j;
-      x-admissible = cuts i (w .i-in) (w .i-ok);
-      y-admissible = cuts j (w .j-in) (w .j-ok);
-      no-cheaper = is-≤ℤ (lt-isnt (costOf g i) (costOf g j) e);
-    }
+    go true e = by j i (w .j-in) (w .i-in) (λ k. w .i≢j (sym k)) (w .j-ok) (w .i-ok) (is-≤ℤ (omega (arith, lt-is (costOf g i) (costOf g j) e)))
+    go false e = by i j (w .i-in) (w .j-in) (w .i≢j) (w .i-ok) (w .j-ok) (is-≤ℤ (lt-isnt (costOf g i) (costOf g j) e))
 
 pub chosen-ruled : {g : Network} → Sound g → 2 ≤ g .remaining → StepByRule g (chosenStep g)
 unfolding chosenStep

@@ -1,5 +1,6 @@
 -- The check of a step and of an ending says what the rules say.
 use mathlib.Core.Path.{_≡_, refl, sym, _∙_, ap}
+use mathlib.Core.Logic.{_≢_, _⊎_}
 use mathlib.Core.Bool.{Bool, true, false, not, cond, _&&_, or-false, or-true}
 use mathlib.Core.List.{List, [], _∷_}
 use Prim.Native.Nat.{ℕ, suc, _≤_}
@@ -8,19 +9,19 @@ use native.Mathlib.Decide.{ℕ-discrete}
 use lib.Dec.{eqb}
 use lib.Signed.{leZ}
 use Rattle.graph.specs.Fold.{only, among}
-use Rattle.graph.specs.Network.{costOf, here, touches, far}
+use Rattle.graph.specs.Network.{costOf, here, touches, far, lowEnd, highEnd}
 use Rattle.graph.specs.Cut.{EveryCut}
-use Rattle.graph.specs.Split.{isPartner, partners, split, splitWith, admissible, third, after}
+use Rattle.graph.specs.Split.{isPartner, partners, split, Admissible, admissible, third, after, swapped}
 use Rattle.graph.specs.Chain.{stepRefusal, lastEdges, dearest, endRefusal, Partner, StepByRule, EndingByRule}
 use Rattle.graph.specs.Sound.{Formed, Sound}
 use Rattle.graph.specs.declared.Network.{Network}
 use Rattle.graph.specs.declared.Step.{Step}
-use Rattle.graph.proofs.Bools.{never, true-T, T-true, eqb-self, eqb-no, eqb-is, and-left, and-right}
+use Rattle.graph.proofs.Bools.{never, true-T, T-true, eqb-self, eqb-no, eqb-is, and-left, and-right, and-both}
 use Rattle.graph.proofs.Sums.{pick-among, among-pick}
 use Rattle.graph.proofs.EveryCut.{every-cut-sound, every-cut-complete}
 use Rattle.graph.proofs.Stars.{differ-comm, Runs, forward, backward, Star, swap-others, crossings-split}
 use Rattle.graph.proofs.Partners.{another, touches-at, touches-ends, touches-runs, runs-here, three-partners, star, Chosen, chosen, among-without}
-use Rattle.graph.proofs.Splitting.{formed-after, sound-after}
+use Rattle.graph.proofs.Splitting.{split-with, formed-after, sound-after}
 use Rattle.graph.proofs.Integers.{≤ℤ-is, is-≤ℤ, lt-isnt, not-lt}
 use Rattle.graph.proofs.Endings.{dearest-at, last-of, of-last}
 
@@ -32,8 +33,8 @@ module _ (g : Network) (v e : ℕ) where
       let w = pick-among (g .edges) 0 (isPartner g v) e h in
       record {
         number = omega (arith, w .1);
-        at-v = touches-ends g v e (and-left (touches g v e) (not (eqb e (g .reserved))) (w .2));
-        not-reserved = λ q. never (rw (q, eqb-self) at (and-right (touches g v e) (not (eqb e (g .reserved))) (w .2)));
+        at-v = touches-ends g v e (and-left (touches g v e) _ (w .2));
+        not-reserved = λ q. never (rw (q, eqb-self) at (and-right (touches g v e) _ (w .2)));
       }
 
   pub of-partner : Partner g v e → among e (partners g v) ≡ true
@@ -57,20 +58,16 @@ module _ {g : Network} (sound : Sound g) (two : 2 ≤ g .remaining) (v : ℕ) (h
       let ps = three-partners sound hv (o .1) (o .2) held in
       chosen (star sound hv (o .1) (o .2) held (ps .3)) (ps .3) x h
 
-  split-with : {x u : ℕ} (w : Chosen g v u x) → splitWith g v x ≡ split g v x (w .y) (w .z)
-  unfolding splitWith
-  split-with w = rw (w .others)
-
   -- the computed test of a partner is the statement over all sides
-  pub admissible-sound : (x : ℕ) → among x (partners g v) ≡ true → admissible g v x ≡ true → EveryCut 4 (splitWith g v x)
+  pub admissible-sound : (x : ℕ) → among x (partners g v) ≡ true → admissible g v x ≡ true → Admissible g v x
   unfolding admissible
   admissible-sound x m h =
       let w = named x m in
-      every-cut-sound 4 (λ e. true) (rw (split-with w) (formed-after (sound .formed) (w .at) (end-here sound v held))) h
+      every-cut-sound _ (λ e. true) (rw (split-with g v x (w .others)) (formed-after (sound .formed) (w .at) (end-here sound v held))) h
 
-pub admissible-complete : (g : Network) (v x : ℕ) → EveryCut 4 (splitWith g v x) → admissible g v x ≡ true
+pub admissible-complete : (g : Network) (v x : ℕ) → Admissible g v x → admissible g v x ≡ true
 unfolding admissible
-admissible-complete g v x h = every-cut-complete 4 (splitWith g v x) (λ e. true) h
+admissible-complete g v x h = every-cut-complete _ _ (λ e. true) h
 
 -- ── a step ──
 cond-zero : (b : Bool) (k n : ℕ) → cond b n (suc k) ≡ 0 → (b ≡ true) × (n ≡ 0)
@@ -90,19 +87,19 @@ step-ruled {g} sound two t h =
     let C = among (t .y) ps in
     let D = eqb (t .x) (t .y) in
     let E = admissible g (t .v) (t .x) in
-    let F = admissible g (t .v) (t .y) in
     let eight = cond-zero (touches g (t .v) (g .reserved)) 7 _ h in
     let nine = cond-zero (B && C && not D) 8 _ (eight .1) in
-    let ten = cond-zero (E && F) 9 _ (nine .1) in
+    let ten = cond-zero _ 9 _ (nine .1) in
     let x-in = and-left B C (and-left (B && C) (not D) (nine .0)) in
     let y-in = and-right B C (and-left (B && C) (not D) (nine .0)) in
+    let tested = admissible-sound sound two (t .v) (eight .0) in
     record {
       at-end = touches-ends g (t .v) (g .reserved) (eight .0);
       x-partner = partner-of g (t .v) (t .x) x-in;
       y-partner = partner-of g (t .v) (t .y) y-in;
       different = λ e. never (rw (e, eqb-self (t .y)) at (and-right (B && C) (not D) (nine .0)));
-      x-admissible = admissible-sound sound two (t .v) (eight .0) (t .x) x-in (and-left E F (ten .0));
-      y-admissible = admissible-sound sound two (t .v) (eight .0) (t .y) y-in (and-right E F (ten .0));
+      x-admissible = tested _ (search) (and-left E _ (ten .0));
+      y-admissible = tested _ (search) (and-right E _ (ten .0));
       no-cheaper = is-≤ℤ (lt-isnt (costOf g (t .x)) (costOf g (t .y)) (dear _ (ten .1)));
     }
 
@@ -115,8 +112,7 @@ ruled-step g t r =
       of-partner g (t .v) (t .x) (r .x-partner),
       of-partner g (t .v) (t .y) (r .y-partner),
       eqb-no (r .different),
-      admissible-complete g (t .v) (t .x) (r .x-admissible),
-      admissible-complete g (t .v) (t .y) (r .y-admissible),
+      and-both (admissible-complete g (t .v) _ (r .x-admissible)) (admissible-complete g (t .v) _ (r .y-admissible)),
       not-lt (costOf g (t .x)) (costOf g (t .y)) (≤ℤ-is (r .no-cheaper)),
     )
 
@@ -147,26 +143,39 @@ make : (g : Network) (t : Step) {y z u a b c : ℕ} → Star g (t .v) (t .x) y z
 unfolding after
 make g t {u = u} {a = a} {b = b} {c = c} s hv ey ez h = record { u = u; a = a; b = b; c = c; at = rw (ez, ey) s; v-here = hv; cuts = rw (ez, ey) h }
 
-pub stepped : {g : Network} → Sound g → 2 ≤ g .remaining → (t : Step) → StepByRule g t → Stepped g t
+-- splitting with an admissible partner x, another being y
+split-by : {g : Network} → Sound g → 2 ≤ g .remaining → (t : Step) → (lowEnd g (g .reserved) ≡ t .v) ⊎ (highEnd g (g .reserved) ≡ t .v)
+    → Partner g (t .v) (t .x) → Partner g (t .v) (t .y) → t .x ≢ t .y → Admissible g (t .v) (t .x) → Stepped g t
 unfolding third among only
-stepped {g} sound two t r =
-    let held = touches-at g (t .v) (g .reserved) (r .at-end) in
-    let w = named sound two (t .v) held (t .x) (of-partner g (t .v) (t .x) (r .x-partner)) in
+split-by {g} sound two t at-end x-partner y-partner different x-admissible =
+    let held = touches-at g (t .v) (g .reserved) at-end in
+    let w = named sound two (t .v) held (t .x) (of-partner g (t .v) (t .x) x-partner) in
     let hv = end-here sound (t .v) held in
     let f = w .at .four in
-    let h : EveryCut 4 (split g (t .v) (t .x) (w .y) (w .z)) = rw (split-with sound two (t .v) held w) at (r .x-admissible) in
+    let h : EveryCut 4 (split g (t .v) (t .x) (w .y) (w .z)) = rw (split-with g (t .v) (t .x) (w .others)) at x-admissible in
     let y-in : among (t .y) (w .y ∷ w .z ∷ []) ≡ true =
-    ap (among (t .y)) (sym (w .others)) ∙ among-without (t .x) (t .y) (λ k. r .different (sym k)) (partners g (t .v)) ∙ of-partner g (t .v) (t .y) (r .y-partner) in
+    ap (among (t .y)) (sym (w .others)) ∙ among-without (t .x) (t .y) (λ k. different (sym k)) (partners g (t .v)) ∙ of-partner g (t .v) (t .y) y-partner in
     elim (ℕ-discrete (t .y) (w .y)) [
       | yes q ↦ make g t (w .at) hv q (rw (q, w .others, eqb-self, eqb-no {a = w .z} {b = w .y} (λ k. f .yz (sym k)))) h
       | no q ↦ let yz : t .y ≡ w .z = eqb-is (rw (eqb-no q, or-false) at y-in) in
           make g t (swap-others (w .at)) hv yz (rw (yz, w .others, eqb-self (w .z), eqb-no (f .yz))) (either-order (sound .formed) (w .at) h)
     ]
 
+pub stepped : {g : Network} → Sound g → 2 ≤ g .remaining → (t : Step) → StepByRule g t → Stepped g t
+stepped sound two t r = split-by sound two t (r .at-end) (r .x-partner) (r .y-partner) (r .different) (r .x-admissible)
+
+-- y too may be split with
+swapped-stepped : {g : Network} → Sound g → 2 ≤ g .remaining → (t : Step) → StepByRule g t → Stepped g (swapped t)
+swapped-stepped sound two t r = split-by sound two (swapped t) (r .at-end) (r .y-partner) (r .x-partner) (λ e. r .different (sym e)) (r .y-admissible)
+
 -- the network after a step by rule is sound, with one vertex less
 pub sound-step : {g : Network} → Sound g → (t : Step) → Stepped g t → Sound (after g t)
 unfolding after
 sound-step sound t w = sound-after sound (w .at) (w .v-here) (w .cuts)
+
+-- whichever of its partners is split with: for this a step tests both
+pub sound-either : {g : Network} → Sound g → 2 ≤ g .remaining → (t : Step) → StepByRule g t → Sound (after g t) × Sound (after g (swapped t))
+sound-either sound two t r = (sound-step sound t (stepped sound two t r), sound-step sound (swapped t) (swapped-stepped sound two t r))
 
 -- ── an ending ──
 module _ (g : Network) where

@@ -2,23 +2,29 @@
 use mathlib.Core.Path.{_≡_, sym, _∙_, ap, ap₂}
 use mathlib.Core.Logic.{_≢_, inl, inr, ⊎-elim}
 use mathlib.Core.Bool.{Bool, true, false, cond}
+use mathlib.Core.List.{[], _∷_}
 use Prim.Native.Nat.{ℕ, _+_, _-_, _<_}
 use native.Mathlib.Omega.{arith}
 use native.Mathlib.Decide.{ℕ-discrete}
 use lib.Dec.{eqb}
 use lib.ListN.{length, getD, set, length-set}
 use lib.Seq.{getD-set-same, getD-set-other}
-use Rattle.graph.specs.Fold.{sum, bit}
+use Rattle.graph.specs.Fold.{sum, bit, without}
 use lib.IntN.{pos}
 use Rattle.graph.specs.Network.{lowEnd, highEnd, costOf, here, endsAt, degree}
 use Rattle.graph.specs.Cut.{Side, differ, crosses, crossingsOf, EveryCut}
-use Rattle.graph.specs.Split.{split}
+use Rattle.graph.specs.Split.{partners, split, splitWith}
 use Rattle.graph.specs.Sound.{Formed, Joins, Sound}
 use Rattle.graph.specs.declared.Network.{Network}
 use Rattle.graph.proofs.Bools.{never, eqb-self, eqb-no}
 use Rattle.graph.proofs.Sums.{sum-ext, sum-change, sum-change-four}
 use Rattle.graph.proofs.Stars.{differ-same, Runs, forward, backward, Star, split-reserved, split-z, split-x, split-y, split-low, split-high, cost-x, cost-y, cost-other}
 use Rattle.graph.proofs.Partners.{runs-here}
+
+-- splitting with a partner whose others are known
+pub split-with : (g : Network) (v x : ℕ) {y z : ℕ} → without x (partners g v) ≡ y ∷ z ∷ [] → splitWith g v x ≡ split g v x y z
+unfolding splitWith
+split-with g v x e = rw e
 
 -- ── who is present ──
 module _ {g : Network} (f : Formed g) (v x y z : ℕ) (v-here : here g v ≡ true) where

@@ -7,15 +7,19 @@ use Prim.Native.Nat.{ℕ, _+_, _≤_, _<_}
 use native.Mathlib.Omega.{arith}
 use lib.Dec.{eqb}
 use lib.ListN.{length, getD}
-use lib.IntN.{pos, _-ℤ_}
+use lib.IntN.{pos}
 use lib.Seq.{lt-length-set, getD-set-same, getD-set-other}
-use Rattle.graph.specs.Network.{lowEnd, highEnd, costOf, endsAt, far}
+use Rattle.graph.specs.Network.{lowEnd, highEnd, costOf, endsAt, far, unreserved}
 use Rattle.graph.specs.Cut.{Side, differ, crosses, crossingsOf, crossings}
-use Rattle.graph.specs.Split.{splitEnds, split}
+use Rattle.graph.specs.Split.{splitEnds, costAfter, split}
 use Rattle.graph.specs.Sound.{Formed}
 use Rattle.graph.specs.declared.Network.{Network}
 use Rattle.graph.proofs.Bools.{eqb-self, eqb-no}
 use Rattle.graph.proofs.Sums.{sum-change-four, Four}
+
+-- an edge other than the reserved one counts among all but it
+pub counted : (g : Network) (e : ℕ) → g .reserved ≢ e → unreserved g e ≡ true
+counted g e ne = let h : eqb e (g .reserved) ≡ false = eqb-no (λ q. ne (sym q)) in search h
 
 pub differ-comm : (a b : Bool) → differ a b ≡ differ b a
 unfolding differ
@@ -180,7 +184,7 @@ module _ {g : Network} (f : Formed g) {v x y z u a b c : ℕ} (s : Star g v x y 
   unfolding split
   split-high e = ends-other (s .four) (g .high) (f .high-room) _ _ v e
 
-  pub cost-z : costOf (split g v x y z) z ≡ costOf g z -ℤ costOf g x
+  pub cost-z : costOf (split g v x y z) z ≡ costAfter (costOf g x) (costOf g y) (costOf g z)
   unfolding split
   cost-z =
       let l : z < length (g .cost) = omega (arith, s .four .z<, f .cost-room) in

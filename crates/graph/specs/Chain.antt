@@ -9,8 +9,7 @@ use lib.ListN.{length, getD, set}
 use lib.Signed.{leZ, ltZ, _≤ℤ_}
 use Rattle.graph.specs.Fold.{pick, among, tabulate}
 use Rattle.graph.specs.Network.{lowEnd, highEnd, costOf, here, touches}
-use Rattle.graph.specs.Cut.{EveryCut}
-use Rattle.graph.specs.Split.{partners, splitWith, admissible, third, after}
+use Rattle.graph.specs.Split.{partners, Admissible, admissible, third, after}
 use Rattle.graph.specs.declared.Network.{Network}
 use Rattle.graph.specs.declared.Step.{Step}
 
@@ -74,11 +73,11 @@ check g (t ∷ ts) d =
 
 -- ── the rules, as a relation ──
 
--- edge e is a partner at v
-pub record Partner (g : Network) (v e : ℕ) : Type 0 where
-  pub number : e < g .edges
-  pub at-v : (lowEnd g e ≡ v) ⊎ (highEnd g e ≡ v)
-  pub not-reserved : e ≢ g .reserved
+-- edge p is a partner at v
+pub record Partner (g : Network) (v p : ℕ) : Type 0 where
+  pub number : p < g .edges
+  pub at-v : (lowEnd g p ≡ v) ⊎ (highEnd g p ≡ v)
+  pub not-reserved : p ≢ g .reserved
 
 -- a step by rule: two different admissible partners at an end of the reserved edge, the first no cheaper than the second
 pub record StepByRule (g : Network) (t : Step) : Type 0 where
@@ -86,8 +85,8 @@ pub record StepByRule (g : Network) (t : Step) : Type 0 where
   pub x-partner : Partner g (t .v) (t .x)
   pub y-partner : Partner g (t .v) (t .y)
   pub different : t .x ≢ t .y
-  pub x-admissible : EveryCut 4 (splitWith g (t .v) (t .x))
-  pub y-admissible : EveryCut 4 (splitWith g (t .v) (t .y))
+  pub x-admissible : Admissible g (t .v) (t .x)
+  pub y-admissible : Admissible g (t .v) (t .y)
   pub no-cheaper : costOf g (t .y) ≤ℤ costOf g (t .x)
 
 -- one of the last three edges: it is neither retired nor reserved

@@ -3,14 +3,16 @@ use mathlib.Core.Bool.{Bool, false}
 use mathlib.Core.List.{List}
 use mathlib.Core.Logic.{_↔_}
 use mathlib.Core.Path.{_≡_}
-use Prim.Native.Nat.{ℕ}
+use Prim.Native.Nat.{ℕ, _<_}
 use lib.ListN.{length}
 use lib.IntN.{pos, _*ℤ_}
 use lib.Signed.{_≤ℤ_}
 use Rattle.graph.specs.Network.{kept, keptCost, allButReserved}
 use Rattle.graph.specs.Cut.{EveryCutOf}
-use Rattle.graph.specs.Chain.{keeps, check, ByRules}
+use Rattle.graph.specs.Split.{after, swapped}
+use Rattle.graph.specs.Chain.{keeps, check, StepByRule, ByRules, Leads}
 use Rattle.graph.specs.Back.{Back}
+use Rattle.graph.specs.Sound.{Sound}
 use Rattle.graph.specs.declared.Network.{Network}
 use Rattle.graph.specs.declared.Step.{Step}
 
@@ -35,3 +37,6 @@ pub record Condition (g : Network) : Type 0 where
   pub good : (ts : List Step) (d : ℕ) (K : List Bool) → ByRules g ts d → Back g ts d K → Good g K
   -- some chain keeps the rules
   pub exists : (ts : List Step) × (d : ℕ) × ByRules g ts d
+  -- wherever steps by rule lead, either partner that a step names may be split with, so that both must be tested: a sound network is left
+  pub either : (ts : List Step) (h : Network) → Leads g ts h → 2 < h .remaining → (t : Step) → StepByRule h t
+      → Sound (after h t) × Sound (after h (swapped t))

@@ -76,6 +76,10 @@ table =
     ∷ refuses uneven 6
     ∷ []
 
+-- and a chain that document 01 does not mark: x is admissible and y, parallel to the reserved edge, is not
+abbrev pub unmarked : List Case
+unmarked = breaks (1, 4, 1) 3 10 ∷ []
+
 -- an audit of T: the list, whether it connects all vertices, how many it reaches, how many of it are critical
 abbrev pub Audit : Type 0
 Audit = List ℕ × Bool × ℕ × ℕ

@@ -47,9 +47,13 @@ costOver g K = sumℤ (g .edges) (λ e. cond (K e) (costOf g e) (pos 0))
 abbrev pub kept : List Bool → ℕ → Bool
 kept K e = getD K e false
 
+-- every edge but the reserved one
+abbrev pub unreserved : Network → ℕ → Bool
+unreserved g e = not (eqb e (g .reserved))
+
 -- kept cost, and the cost of all edges but the reserved one
 abbrev pub keptCost : Network → List Bool → ℤ
 keptCost g K = costOver g (kept K)
 
 abbrev pub allButReserved : Network → ℤ
-allButReserved g = costOver g (λ e. not (eqb e (g .reserved)))
+allButReserved g = costOver g (unreserved g)

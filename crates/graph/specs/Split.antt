@@ -7,7 +7,7 @@ use lib.ListN.{getD, set}
 use lib.IntN.{ℤ, pos, _-ℤ_}
 use Rattle.graph.specs.Fold.{pick, without}
 use Rattle.graph.specs.Network.{touches, far}
-use Rattle.graph.specs.Cut.{everyCut}
+use Rattle.graph.specs.Cut.{EveryCut, everyCut}
 use Rattle.graph.specs.declared.Network.{Network}
 use Rattle.graph.specs.declared.Step.{Step}
 
@@ -23,9 +23,14 @@ partners g v = pick (g .edges) 0 (isPartner g v)
 abbrev pub splitEnds : List ℕ → ℕ → ℕ → ℕ → ℕ → ℕ → ℕ → ℕ → List ℕ
 splitEnds column r newR z newZ x y v = set (set (set (set column r newR) z newZ) x v) y v
 
--- the costs after a split: z costs c(z) - c(x), and retired edges nothing
+-- what z costs after a split, from the costs of x, y and z before it: c(z) - c(x)
+abbrev pub costAfter : ℤ → ℤ → ℤ → ℤ
+costAfter cx cy cz = cz -ℤ cx
+
+-- the costs after a split: z's new one, and nothing for retired edges
 abbrev pub splitCosts : List ℤ → ℕ → ℕ → ℕ → List ℤ
-splitCosts costs x y z = set (set (set costs z (getD costs z (pos 0) -ℤ getD costs x (pos 0))) x (pos 0)) y (pos 0)
+splitCosts costs x y z =
+    set (set (set costs z (costAfter (getD costs x (pos 0)) (getD costs y (pos 0)) (getD costs z (pos 0)))) x (pos 0)) y (pos 0)
 
 -- splitting off v with partner x, the others being y and z: the reserved edge runs on to the far end of x,
 -- z runs from the far end of y to its own, x and y retire, and v leaves
@@ -47,7 +52,11 @@ split g v x y z =
 unfoldable pub splitWith : Network → ℕ → ℕ → Network
 splitWith g v x = let others = without x (partners g v) in split g v x (getD others 0 0) (getD others 1 0)
 
--- partner x is admissible: every cut is then crossed by at least four
+-- document 01: admissible. After splitting with partner x every cut is crossed by at least four
+abbrev pub Admissible : Network → ℕ → ℕ → Type 0
+Admissible g v x = EveryCut 4 (splitWith g v x)
+
+-- the same as a test that computes
 unfoldable pub admissible : Network → ℕ → ℕ → Bool
 admissible g v x = everyCut 4 (splitWith g v x)
 
@@ -58,3 +67,7 @@ third g t = getD (without (t .y) (without (t .x) (partners g (t .v)))) 0 0
 -- the network after a step
 unfoldable pub after : Network → Step → Network
 after g t = split g (t .v) (t .x) (t .y) (third g t)
+
+-- a step with the partners that it names exchanged: it splits with y, and x retires with it
+abbrev pub swapped : Step → Step
+swapped t = record { v = t .v; x = t .y; y = t .x }

@@ -4,8 +4,9 @@ use native.Mathlib.Omega.{arith}
 use borrow.Author.Needs.{needs}
 use lib.ListN.{length}
 use Rattle.graph.specs.Cut.{everyCut}
+use Rattle.graph.specs.Split.{admissible}
 use Rattle.graph.specs.State.{edgeLimit}
-use Rattle.graph.proofs.Lemma8.{admissible-is}
+use Rattle.graph.proofs.Splitting.{split-with}
 use Rattle.flow.proofs.Partnering.{splittable, split-formed}
 use Rattle.flow.proofs.admissible.Statement.{statement}
 use Rattle.flow.proofs.admissible.Tie as tie
@@ -19,7 +20,8 @@ every-cut-four-requires : tie.Need-every-cut-four-requires
 every-cut-four-requires c κs = rw (c .split .ensures) (split-formed (c .before .pre))
 
 returns : tie.Need-returns
-returns c = c .every-cut-four .ensures ∙ ap (everyCut 4) (c .before .split .ensures) ∙ sym (admissible-is _ _ _ _ _ (c .before .before .pre .others))
+unfolding admissible
+returns c = c .every-cut-four .ensures ∙ ap (everyCut 4) (c .before .split .ensures ∙ sym (split-with _ _ _ (c .before .before .pre .others)))
 
 pub admissible-spec : {M : Type 1} → statement M
 admissible-spec = tie.close (tie.spec split-requires every-cut-four-requires returns)

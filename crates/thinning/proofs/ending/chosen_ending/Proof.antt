@@ -16,7 +16,10 @@ last-three-requires : tie.Need-last-three-requires
 last-three-requires c κs = search needs
 
 cheaper-requires : tie.Need-cheaper-requires
-cheaper-requires c κs = let f = found c .at .four in costed (c .before .pre .run) (f .y<) (f .x<)
+cheaper-requires c κs =
+    let f = found c .at .four in
+    let w = costed (c .before .pre .run) (f .y<) (f .x<) in
+    search w
 
 cheaper-requires-2 : tie.Need-cheaper-requires-2
 cheaper-requires-2 c κs = let p = c .before .before in let f = found p .at .four in costed (p .before .pre .run) (f .z<) (f .x<)

@@ -80,7 +80,10 @@ module _ (t : ℕ) where
   put-step-requires c κs = let k = c .before in step-room (entry k .args .network) (more k) _ (entry k .pre .1 .1)
 
   split-requires : lts.Need-split-requires (claims t) (at t) plan-into.Post
-  split-requires c κs = let k = c .before .before .before .before in move-splittable (entry k .pre .1 .0) (more k) (k .chosen-step .result) (k .chosen-step .ensures)
+  split-requires c κs =
+      let k = c .before .before .before .before in
+      let w = move-splittable (entry k .pre .1 .0) (more k) (k .chosen-step .result) (k .chosen-step .ensures) in
+      search w
 
   sub-plan-into : lts.Need-sub-plan-into (claims t) (at t) plan-into.Post
   sub-plan-into c =
