@@ -95,21 +95,22 @@ pub record PlanWrites (t : List ℕ) (p : Texts) (chain lent : List ℕ) : Type 
 pub record Claim : Type 0 where
   -- 'A network is accepted if every cabinet has four cables and every division is crossed by at least four.'
   pub accepted : (t : List ℕ) (g : Network) → (acceptNetwork t ≡ answer g) ↔ Accepted t g
-  -- 'For every accepted network, whichever cable is reserved': one that is accepted is accepted with any other edge reserved
+  -- '3 reserved cable not below 2n' is all that is asked of it: what is accepted is accepted with any other edge reserved
   pub any-reserved : {t : List ℕ} {g : Network} → Accepted t g → (r : ℕ) → r < g .edges → (s : List ℕ) × Accepted s (reserving r g)
-  -- 'They keep the rules over an accepted network exactly when they are a chain text with nothing left over, each frame 03 is a step by
-  -- rule on the network that the frames before it leave', and the frame 04 an ending by rule; 'A chain passes when its check over an
-  -- accepted network succeeds or gives 13'
+  -- 'A chain passes when its check over an accepted network succeeds or gives 13.' 'Any bytes may be proposed as a chain. They keep the
+  -- rules over an accepted network exactly when they are a chain text with nothing left over, each frame 03 is a step by rule on the
+  -- network that the frames before it leave, and the frame 04 names a dearest of the last three that aren't reserved.'
   pub passes : {t : List ℕ} {g : Network} → Accepted t g → (chain lent : List ℕ) → Passes (chainReply t chain lent) ↔ ((K : List Bool) × Ruled g chain K)
-  -- 'The kept cables are what going back from the ending gives, and the kept text lists exactly these'
+  -- 'The kept cables are what going back from the ending gives, and the kept text lists exactly these. Its 06 has the sum of their costs
+  -- and the sum over all cables but the reserved one, both at the network's own costs'
   pub gives : {t : List ℕ} {g : Network} → Accepted t g → (chain text : List ℕ)
       → (checkChainText t chain ≡ answer text) ↔ ((K : List Bool) × Ruled g chain K × (text ≡ keptOf g K))
   -- and going back gives one set alone
   pub one : {t : List ℕ} {g : Network} → Accepted t g → {chain : List ℕ} {K L : List Bool} → Ruled g chain K → Ruled g chain L → K ≡ L
-  -- 'The cables it then keeps leave out the reserved one, name none twice, cross every division at least twice, and three times their
-  -- cost is at most twice that of all cables but the reserved one'
+  -- 'the ratio is between these two. Divisions are those of all n cabinets': the kept edges leave out the reserved one, none stands twice,
+  -- every cut is crossed at least twice, and three times their cost is at most twice that of all edges but the reserved one
   pub owed : {t : List ℕ} {g : Network} → Accepted t g → {chain : List ℕ} {K : List Bool} → Ruled g chain K → Owed g K
-  -- '13 an output buffer is shorter than the text that is due to it'
+  -- '13 an output buffer is shorter than the text that is due to it', for every buffer that is lent
   pub short : {t : List ℕ} {g : Network} → Accepted t g → (chain lent : List ℕ)
       → (chainReply t chain lent ≡ Refused SHORT) ↔ ((K : List Bool) × Ruled g chain K × (length lent < length (keptOf g K)))
   -- 'Success returns the lengths written': the whole text, and behind it the old bytes
@@ -129,3 +130,17 @@ pub record Claim : Type 0 where
   pub network-refusals : (t : List ℕ) (k : ℕ) → acceptNetwork t ≡ refused k → (1 ≤ k) × (k ≤ 7)
   pub chain-refusals : {t : List ℕ} {g : Network} → Accepted t g → (chain : List ℕ) (k : ℕ) → checkChainText t chain ≡ refused k
       → (k ≡ 1) ⊎ ((8 ≤ k) × (k ≤ 12))
+
+-- ── wrong programs that the claim shuts out, each by a must-fail edit ──
+--
+-- answers every passing chain with the planner's kept text    `gives`               planners_text_for_every_chain
+-- keeps the planner's set for every chain                     `gives`               planners_set_for_every_chain
+-- answers bytes left over by 13                               `passes`              bytes_left_over_as_short
+-- judges the first step and waves the later ones through      `passes`              later_steps_waved_through
+-- keeps all edges but the reserved one                        `owed`, its ratio     all_but_the_reserved_kept, in crate graph
+-- counts the reserved edge in the ratio                       `owed`, its ratio     reserved_in_ratio, in crate graph
+-- guesses the planner's later steps                           `planned`             later_steps_guessed, here and in crate graph
+-- files one chain for all networks                            `planned`             one_chain_for_all_networks, here and in crate graph
+-- turns down every network                                    `accepted`            every_network_refused
+-- calls a buffer short before measuring the text              `planned`             short_before_measuring
+-- writes nothing and reports success                          `planned`             nothing_written
