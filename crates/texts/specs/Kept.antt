@@ -7,6 +7,7 @@ use lib.IntN.{ℤ}
 use Rattle.frame.specs.Table.{KEPT, COSTS, REFUSAL, lineLength}
 use Rattle.frame.specs.Line.{lineOf}
 use Rattle.frame.specs.Kinds.{ofCosts, ofRefusal}
+use Rattle.texts.specs.Limits.{mostEdges}
 use Rattle.texts.specs.Lists.{listText}
 
 -- the numbers from k on, n of them looked at, for which p holds
@@ -29,6 +30,10 @@ keptText es kept unreserved = listText es ++ lineOf COSTS (ofCosts (record { kep
 -- how many bytes the kept text of so many edges has
 unfoldable pub keptLength : ℕ → ℕ
 keptLength count = count * lineLength KEPT + lineLength COSTS
+
+-- how many bytes a kept text has at most
+unfoldable pub longestKept : ℕ
+longestKept = keptLength mostEdges
 
 -- the line of a refusal
 unfoldable pub refusalText : ℕ → List ℕ
