@@ -9,5 +9,6 @@ pub mod ChainTexts
 pub mod Accepting
 pub mod Keepings
 pub mod Handing
+pub mod Longest
 pub mod Condition
 pub mod Examples
