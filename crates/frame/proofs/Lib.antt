@@ -2,6 +2,7 @@ pub mod Answers
 pub mod Below
 pub mod Columns
 pub mod Examples
+pub mod Fronts
 pub mod Judging
 pub mod Lines
 pub mod Named

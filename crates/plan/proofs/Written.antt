@@ -1,30 +1,24 @@
--- The texts that a plan has written fit their buffers.
+-- The texts that a plan has written are no longer than the longest.
 use mathlib.Core.Path.{_≡_, refl}
-use mathlib.Core.Bool.{true}
 use mathlib.Core.List.{List}
 use Prim.Native.Nat.{ℕ, _≤_}
 use native.Mathlib.Omega.{arith}
-use lib.Dec.{leb}
 use lib.ListN.{length}
-use borrow.Author.Tests.{leb-true}
-use Rattle.frame.specs.Answer.{Answer, refused, answer, roomIn}
-use Rattle.frame.proofs.Answers.{given-room}
-use Rattle.graph.proofs.Bools.{and-left, and-right}
+use Rattle.frame.specs.Answer.{Answer, refused, answer}
+use Rattle.texts.specs.Kept.{longestKept}
 use Rattle.thinning.specs.declared.planner.Planned.the-variants.{Written}
-use Rattle.thinning.specs.Services.{Texts, planText, planRoom, planGiven, plannedOf}
+use Rattle.thinning.specs.Plans.{longestChain}
+use Rattle.thinning.specs.Services.{Texts, planText, plannedOf}
+use Rattle.thinning.proofs.Longest.{plan-lengths}
 
-module _ (chain kept : List ℕ) (c k : ℕ) where
-  answered : (a : Answer Texts) → ((t : Texts) → a ≡ answer t → planRoom chain kept t ≡ true) → Written c k ≡ plannedOf a → (c ≤ length chain) × (k ≤ length kept)
-  unfolding plannedOf planRoom roomIn
-  answered (refused j) room h = let z : _≡_ {A = ℕ} 0 1 = cc in absurd (omega arith)
-  answered (answer t) room h =
-      let r = room t refl in
-      let m : c ≡ length (t .chain) = cc in
-      let n : k ≡ length (t .kept) = cc in
-      let x = leb (length (t .chain)) (length chain) in
-      let y = leb (length (t .kept)) (length kept) in
-      (omega (arith, leb-true (length (t .chain)) (length chain) (and-left x y r), m), omega (arith, leb-true (length (t .kept)) (length kept) (and-right x y r), n))
-
-  pub written-fit : (network : List ℕ) → Written c k ≡ plannedOf (planGiven network chain kept) → (c ≤ length chain) × (k ≤ length kept)
-  unfolding planGiven
-  written-fit network = answered (planGiven network chain kept) (given-room (planRoom chain kept) (planText network))
+pub written-short : (network : List ℕ) (c k : ℕ) → Written c k ≡ plannedOf (planText network) → (c ≤ longestChain) × (k ≤ longestKept)
+written-short network c k h = go (planText network) refl h
+  where
+    go : (a : Answer Texts) → planText network ≡ a → Written c k ≡ plannedOf a → (c ≤ longestChain) × (k ≤ longestKept)
+    go (refused j) e h = unfold plannedOf in let z : _≡_ {A = ℕ} 0 1 = cc in absurd (omega arith)
+    go (answer t) e h =
+        let l = plan-lengths network t e in
+        unfold plannedOf in
+        let m : c ≡ length (t .chain) = cc in
+        let n : k ≡ length (t .kept) = cc in
+        (omega (arith, l .0), omega (arith, l .1))

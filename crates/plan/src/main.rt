@@ -2,14 +2,24 @@
 use frame::Reply;
 use libc::STDIN_FILENO;
 use libc::STDOUT_FILENO;
+use texts::LONGEST_NETWORK;
 use texts::write_refusal;
 use thinning::Planned;
 use thinning::plan;
+ghost use mathlib.Core.Path.{_≡_};
+ghost use Prim.Native.Nat.{_≤_, _<_};
+ghost use lib.ListN.{length};
+ghost use Rattle.io.specs.Counts.{Counts};
+ghost use Rattle.frame.specs.Answer.{filled};
+ghost use Rattle.texts.specs.Networks.{longestNetwork};
+ghost use Rattle.texts.specs.Kept.{longestKept};
+ghost use Rattle.thinning.specs.Plans.{longestChain};
+ghost use Rattle.thinning.specs.Services.{planText, plannedOf};
 
-// The longest network text has 11,787 bytes; with one more, every longer input is answered as its start is.
-const INPUT_ROOM: usize = 11_788;
+// One byte more than the longest network text has: a longer input is answered as these bytes are (the laws `first-bytes` of crate texts and `plan-first` of crate thinning).
+const INPUT_ROOM: usize = LONGEST_NETWORK + 1;
 
-// Room for the longest chain text and for the longest kept text.
+// Room for the longest chain text and for the longest kept text: no plan is refused for want of it (the law `every-plan-fits` of crate thinning).
 const OUTPUT_ROOM: usize = 4096;
 
 // Room for the line of a refusal.
@@ -24,11 +34,29 @@ fn refuse(number: u8) {
     io::write_all(STDOUT_FILENO, &line[..length]);
 }
 
+// Reads standard input, as far as it says what is answered, and answers how many bytes that is.
+fn read_input(input: &mut [u8]) -> usize
+    requires { ⌜ longestNetwork < length (now input) ⌝ }
+    ensures { λ r. ⌜ Counts r (now (input .exit)) ⌝ }
+{
+    io::read_full(STDIN_FILENO, input)
+}
+
+// Plans a network text into buffers that have room for the longest texts, so never 13.
+fn plan_roomy(network: &[u8], chain: &mut [u8], kept: &mut [u8]) -> Planned
+    requires { ⌜ (longestChain ≤ length (now chain)) × (longestKept ≤ length (now kept)) ⌝ }
+    ensures reply { λ r. ⌜ r ≡ plannedOf (planText (now (network .entry))) ⌝ }
+    ensures chain { λ r. ⌜ now (chain .exit) ≡ filled (λ t. t .chain) (planText (now (network .entry))) (now (chain .entry)) ⌝ }
+    ensures kept { λ r. ⌜ now (kept .exit) ≡ filled (λ t. t .kept) (planText (now (network .entry))) (now (kept .entry)) ⌝ }
+{
+    plan(network, chain, kept)
+}
+
 // Plans a network text and writes what is due.
 fn answer(network: &[u8]) {
     let mut chain = [0u8; OUTPUT_ROOM];
     let mut kept = [0u8; OUTPUT_ROOM];
-    match plan(network, &mut chain, &mut kept) {
+    match plan_roomy(network, &mut chain, &mut kept) {
         Planned::Written {
             chain: chain_length,
             kept: kept_length,
@@ -44,6 +72,6 @@ fn answer(network: &[u8]) {
 
 fn main() {
     let mut input = [0u8; INPUT_ROOM];
-    let n = io::read_full(STDIN_FILENO, &mut input);
+    let n = read_input(&mut input);
     answer(&input[..n]);
 }

@@ -6,20 +6,17 @@ use mathlib.Core.List.{List, [], _∷_, _++_}
 use Prim.Native.Nat.{ℕ, zero, suc, _+_, _*_, _-_, _≤_, _<_}
 use native.Mathlib.Omega.{arith}
 use native.Mathlib.Numerals.{add-one}
-use native.Mathlib.Nat.{sub-zero}
-use lib.ListN.{length, take, length-append}
-use lib.Seq.{length-take-le, getD-take}
+use native.Mathlib.Nat.{sub-zero, zero-add, suc-add}
+use lib.ListN.{length, length-append, List·getD-eq-default}
 use lib.IntN.{ℤ}
-use borrow.Author.Tests.{le-leb, lt-leb}
-use Rattle.frame.specs.Answer.{refused, answer, over}
+use Rattle.frame.specs.Answer.{over}
 use Rattle.frame.specs.Table.{KEPT, COSTS, REFUSAL, bytesOf, padded, total, placeOf, startOf, lineLength}
 use Rattle.frame.specs.Line.{lineOf}
 use Rattle.frame.specs.Frames.{linesOf}
 use Rattle.frame.specs.Kinds.{ofCosts, ofRefusal}
 use Rattle.frame.proofs.Lines.{length-line}
-use Rattle.texts.specs.Limits.{mostEdges}
 use Rattle.texts.specs.Lists.{frameOf, listText}
-use Rattle.texts.specs.Kept.{pick, isKept, keptEdges, keptText, keptLength, writeKept, refusalText}
+use Rattle.texts.specs.Kept.{pick, isKept, keptEdges, keptText, keptLength, refusalText}
 use Rattle.texts.proofs.ListsTexts.{length-list}
 use Rattle.texts.proofs.Pieces.{Written, written-last, written-front}
 
@@ -55,11 +52,19 @@ module _ (p : ℕ → Bool) where
       go true h = omega arith
       go false h = omega arith
 
--- the same numbers are picked by tests that agree on them
-pick-same : (p q : ℕ → Bool) (n k : ℕ) → ((i : ℕ) → i < k + n → p i ≡ q i) → pick n k p ≡ pick n k q
+-- nothing is picked beyond the last number of which a test holds
+pick-beyond : (p : ℕ → Bool) (n more k : ℕ) → ((i : ℕ) → k + n ≤ i → p i ≡ false) → pick (n + more) k p ≡ pick n k p
 unfolding pick
-pick-same p q zero k h = refl
-pick-same p q (suc n) k h = rw (h k (omega arith), pick-same p q n (suc k) (λ i l. h i (omega arith)))
+pick-beyond p zero zero k h = refl
+pick-beyond p zero (suc more) k h = rw (zero-add, h k (omega arith)) (rw zero-add at (pick-beyond p zero more (suc k) (λ i l. h i (omega arith))))
+pick-beyond p (suc n) more k h = rw (suc-add, pick-beyond p n more (suc k) (λ i l. h i (omega arith)))
+
+-- an edge beyond the marks isn't kept
+pub marks-end : (marks : List Bool) (n m : ℕ) → length marks ≤ m → m ≤ n → keptEdges n marks ≡ keptEdges m marks
+unfolding keptEdges
+marks-end marks n m h l =
+    let e : n ≡ m + (n - m) = omega arith in
+    rw e (pick-beyond (isKept marks) m (n - m) 0 (λ i k. List·getD-eq-default marks false (omega arith)))
 
 pub length-kept : (es : List ℕ) (kept unreserved : ℤ) → length (keptText es kept unreserved) ≡ keptLength (length es)
 unfolding keptText keptLength
@@ -70,24 +75,6 @@ length-kept es kept unreserved =
 -- a text of that length has room
 pub kept-fits : (es : List ℕ) (kept unreserved : ℤ) (n m : ℕ) → n ≡ keptLength (length es) → n ≤ m → length (keptText es kept unreserved) ≤ m
 kept-fits es kept unreserved n m e h = omega (arith, length-kept es kept unreserved)
-
--- the writer's answer, by the number of marks
-module _ (marks : List Bool) (kept unreserved : ℤ) where
-  pub marks-refused : mostEdges < length marks → writeKept marks kept unreserved ≡ refused 1
-  unfolding writeKept
-  marks-refused h = rw (lt-leb (length marks) (mostEdges) h)
-
-  pub marks-written : length marks ≤ mostEdges → writeKept marks kept unreserved ≡ answer (keptText (keptEdges (length marks) marks) kept unreserved)
-  unfolding writeKept
-  marks-written h = rw (le-leb (length marks) (mostEdges) h)
-
-  -- only the first n of the marks
-  pub first-marks : (n : ℕ) → n ≤ length marks → n ≤ mostEdges → writeKept (take n marks) kept unreserved ≡ answer (keptText (keptEdges n marks) kept unreserved)
-  unfolding writeKept keptEdges
-  first-marks n h l =
-      let e : length (take n marks) ≡ n = length-take-le n marks h in
-      rw (e, le-leb n (mostEdges) l)
-      (ap (λ (es : List ℕ). answer (keptText es kept unreserved)) (pick-same (isKept (take n marks)) (isKept marks) n 0 (λ i k. getD-take n marks i false (omega arith))))
 
 -- the costs are left to write behind the kept edges
 pub costs-left : (es : List ℕ) (kept unreserved : ℤ) (old out : List ℕ) (at : ℕ) → at ≡ length (listText es) → out ≡ over (listText es) old

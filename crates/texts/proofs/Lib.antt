@@ -6,6 +6,7 @@ pub mod NetworksHead
 pub mod NetworksWhole
 pub mod NetworksMeaning
 pub mod NetworksGiven
+pub mod NetworksLongest
 pub mod NetworksChecking
 pub mod NetworksWriting
 pub mod NetworksText

@@ -2,10 +2,8 @@
 use mathlib.Core.Bool.{Bool, false, cond}
 use mathlib.Core.List.{List, [], _∷_, _++_}
 use Prim.Native.Nat.{ℕ, zero, suc, _+_, _*_}
-use lib.Dec.{leb}
-use lib.ListN.{length, getD}
+use lib.ListN.{getD}
 use lib.IntN.{ℤ}
-use Rattle.frame.specs.Answer.{Answer, refused, answer}
 use Rattle.frame.specs.Table.{KEPT, COSTS, REFUSAL, lineLength}
 use Rattle.frame.specs.Line.{lineOf}
 use Rattle.frame.specs.Kinds.{ofCosts, ofRefusal}
@@ -17,7 +15,7 @@ unfoldable pub pick : ℕ → ℕ → (ℕ → Bool) → List ℕ
 pick zero k p = []
 pick (suc n) k p = let later = pick n (suc k) p in cond (p k) (k ∷ later) later
 
--- whether an edge is kept, by its mark
+-- whether an edge is kept, by its mark; one beyond the marks isn't
 abbrev pub isKept : List Bool → ℕ → Bool
 isKept marks e = getD marks e false
 
@@ -33,10 +31,9 @@ keptText es kept unreserved = listText es ++ lineOf COSTS (ofCosts (record { kep
 unfoldable pub keptLength : ℕ → ℕ
 keptLength count = count * lineLength KEPT + lineLength COSTS
 
--- the text of marked edges, or refusal 1 of more marks than any network has edges
-unfoldable pub writeKept : List Bool → ℤ → ℤ → Answer (List ℕ)
-writeKept marks kept unreserved =
-    cond (leb (length marks) mostEdges) (answer (keptText (keptEdges (length marks) marks) kept unreserved)) (refused 1)
+-- how many bytes a kept text has at most
+unfoldable pub longestKept : ℕ
+longestKept = keptLength mostEdges
 
 -- the line of a refusal
 unfoldable pub refusalText : ℕ → List ℕ

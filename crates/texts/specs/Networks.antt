@@ -13,7 +13,7 @@ use Rattle.frame.specs.Line.{isLine, fieldsOf, lineOf, Fits}
 use Rattle.frame.specs.Kinds.{headOf, ofHead, costDigits, edgeOf, ofEdge}
 use Rattle.frame.specs.Frames.{Frames, done, broken, frame, framesOf, linesOf}
 use Rattle.frame.specs.declared.kinds.Edge.{Edge}
-use Rattle.texts.specs.Limits.{fewestVertices, mostVertices, verticesOk, costOk, unless}
+use Rattle.texts.specs.Limits.{fewestVertices, mostVertices, mostEdges, verticesOk, costOk, unless}
 use Rattle.texts.specs.declared.network.ReadNetwork.{ReadNetwork}
 use Rattle.texts.specs.declared.network.ReadNetwork.the-variants.{Read, Refused}
 
@@ -132,6 +132,10 @@ networkText n r es = lineOf HEAD (ofHead (record { vertices = n; reserved = r })
 -- how many bytes the text of a head and k edges has
 unfoldable pub networkLength : ℕ → ℕ
 networkLength k = lineLength HEAD + k * lineLength EDGE
+
+-- how many bytes the longest network text has
+unfoldable pub longestNetwork : ℕ
+longestNetwork = networkLength mostEdges
 
 -- the text of a meaning, or the refusal that its text would meet
 unfoldable pub writeNetwork : Meaning → Answer (List ℕ)

@@ -1,6 +1,5 @@
 // Kept texts and the refusal line: written from their meanings.
 use super::limits::MOST_EDGES;
-use super::refusals::FORM;
 use super::refusals::SHORT;
 use frame::COSTS;
 use frame::Costs;
@@ -17,7 +16,7 @@ ghost use lib.ListN.{length};
 ghost use Rattle.frame.specs.Answer.{answer, over, replyOf, after};
 ghost use Rattle.texts.specs.Limits.{mostEdges};
 ghost use Rattle.texts.specs.Lists.{listText};
-ghost use Rattle.texts.specs.Kept.{keptEdges, keptText, keptLength, writeKept, refusalText};
+ghost use Rattle.texts.specs.Kept.{keptEdges, keptText, keptLength, refusalText};
 
 // How many of the first edges are kept.
 fn count_kept(kept: &[bool], edges: usize) -> usize
@@ -76,20 +75,27 @@ fn put_text(kept: &[bool], edges: usize, cost: i64, unreserved: i64, text: &mut 
     put_line(&mut text[at..], COSTS, costs.fields());
 }
 
-// Writes the kept text of marked edges, with their cost and that of all edges but the reserved one. A column of more marks than any network has edges is refused by 1.
-pub fn write_kept(kept: &[bool], cost: i64, unreserved: i64, text: &mut [u8]) -> Reply
-    ensures { λ r. ⌜ (r ≡ replyOf (writeKept (now (kept .entry)) cost unreserved) (now (text .entry))) ×
-        (now (text .exit) ≡ after (writeKept (now (kept .entry)) cost unreserved) (now (text .entry))) ⌝ }
+// Writes the kept text of the marked edges among the first, with their cost and that of all edges but the reserved one. An edge beyond the marks isn't kept.
+pub fn write_kept(
+    kept: [bool; MOST_EDGES],
+    edges: usize,
+    cost: i64,
+    unreserved: i64,
+    text: &mut [u8],
+) -> Reply
+    ensures { λ r. ⌜ (r ≡ replyOf (answer (keptText (keptEdges edges kept) cost unreserved)) (now (text .entry))) ×
+        (now (text .exit) ≡ after (answer (keptText (keptEdges edges kept) cost unreserved)) (now (text .entry))) ⌝ }
 {
-    let edges = kept.len();
-    if MOST_EDGES < edges {
-        return Reply::Refused(FORM);
-    }
-    let length = kept_length(kept, edges);
+    let marked = if edges < MOST_EDGES {
+        edges
+    } else {
+        MOST_EDGES
+    };
+    let length = kept_length(&kept, marked);
     if text.len() < length {
         return Reply::Refused(SHORT);
     }
-    put_text(kept, edges, cost, unreserved, text);
+    put_text(&kept, marked, cost, unreserved, text);
     Reply::Done(length)
 }
 

@@ -21,6 +21,7 @@ pub use limits::cost_ok;
 pub use limits::vertices_ok;
 pub use list::read_list;
 pub use list::write_list;
+pub use network::LONGEST_NETWORK;
 pub use network::ReadNetwork;
 pub use network::read_network;
 pub use network::write_network;

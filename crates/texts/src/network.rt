@@ -27,6 +27,9 @@ ghost use Rattle.texts.specs.Limits.{mostVertices, refusalOf};
 ghost use Rattle.texts.specs.Networks.{headRefusal, edgeRefusal, checked, edgesOf, readNetwork, readInto, inColumns, edgesIn, meant, Valid, networkText, networkLength, edgesText, writeNetwork};
 ghost use Rattle.texts.specs.NetworksColumns.{Columns, EdgesRead, NetworkRead, NetworkGiven, edgeAt, Edged};
 
+// How many bytes the longest network text has.
+pub const LONGEST_NETWORK: usize = 11_787;
+
 // What reading a network text answers: what its head says, or a refusal's number. Its edges go into columns.
 pub enum ReadNetwork {
     Read { vertices: usize, reserved: usize },

@@ -4,13 +4,12 @@ use mathlib.Core.Bool.{Bool}
 use mathlib.Core.List.{List}
 use Prim.Native.Nat.{ℕ}
 use native.Mathlib.Omega.{arith}
-use lib.ListN.{length, take}
+use lib.ListN.{length}
 use lib.IntN.{ℤ, natAbs}
 use mir.Syntax.{w64}
 use mir.Val.{toZ, ofZ}
-use Rattle.frame.specs.Answer.{answer}
-use Rattle.texts.specs.Kept.{keptEdges, keptText, keptLength, writeKept}
-use Rattle.texts.proofs.KeptTexts.{length-kept, first-marks}
+use Rattle.texts.specs.Kept.{keptEdges, keptText, keptLength}
+use Rattle.texts.proofs.KeptTexts.{length-kept}
 use Rattle.graph.specs.Network.{keptCost, allButReserved}
 use Rattle.graph.specs.declared.Network.{Network}
 use Rattle.thinning.specs.Running.{Keeping}
@@ -23,17 +22,11 @@ module _ {g : Network} {K : List Bool} (k : Keeping g K) where
   unfolding keptOf
   kept-size n e = e ∙ sym (length-kept (keptEdges (g .edges) K) (keptCost g K) (allButReserved g))
 
-  -- the costs as the code hands them over
+  -- the text with the costs as the code hands them over
   module _ (kept unreserved : ℤ) (ek : kept ≡ keptCost g K) (eu : unreserved ≡ allButReserved g) where
-    kept-text : keptText (keptEdges (g .edges) K) (toZ w64 (ofZ w64 kept)) (toZ w64 (ofZ w64 unreserved)) ≡ keptOf g K
+    pub kept-text : keptText (keptEdges (g .edges) K) (toZ w64 (ofZ w64 kept)) (toZ w64 (ofZ w64 unreserved)) ≡ keptOf g K
     unfolding keptOf
     kept-text =
         ap₂ (keptText (keptEdges (g .edges) K))
         (read-back kept (omega (arith, ap natAbs ek, kept-small g (k .light) K)) ∙ ek)
         (read-back unreserved (omega (arith, ap natAbs eu, reserved-small g (k .light))) ∙ eu)
-
-    -- and what the writer answers for the marks of the network's edges
-    pub kept-written : writeKept (take (g .edges) K) (toZ w64 (ofZ w64 kept)) (toZ w64 (ofZ w64 unreserved)) ≡ answer (keptOf g K)
-    kept-written =
-        first-marks K (toZ w64 (ofZ w64 kept)) (toZ w64 (ofZ w64 unreserved)) (g .edges) (omega (arith, k .long, k .edge-room)) (omega (arith, k .edge-room))
-        ∙ ap answer kept-text

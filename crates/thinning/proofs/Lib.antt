@@ -10,5 +10,6 @@ pub mod Accepting
 pub mod Keepings
 pub mod Handing
 pub mod Meets
+pub mod Longest
 pub mod Condition
 pub mod Examples

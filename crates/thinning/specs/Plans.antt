@@ -1,8 +1,9 @@
 -- The chain text of a plan.
 use mathlib.Core.List.{List, map}
-use Prim.Native.Nat.{ℕ, _+_, _*_}
+use Prim.Native.Nat.{ℕ, _+_, _-_, _*_}
 use Rattle.frame.specs.Table.{STEP, DROPPED, lineLength}
 use Rattle.frame.specs.declared.kinds.Step as kinds
+use Rattle.texts.specs.Limits.{mostVertices}
 use Rattle.texts.specs.Chains.{chainText}
 use Rattle.graph.specs.Plan.{planSteps, planDrop}
 use Rattle.graph.specs.declared.Network.{Network}
@@ -19,3 +20,7 @@ planChain n g = chainText (map inFrame (planSteps n g)) (planDrop n g)
 -- how many bytes a chain text with n steps has
 unfoldable pub chainLength : ℕ → ℕ
 chainLength n = n * lineLength STEP + lineLength DROPPED
+
+-- how many bytes the longest chain text has
+unfoldable pub longestChain : ℕ
+longestChain = chainLength (mostVertices - 2)

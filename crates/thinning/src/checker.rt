@@ -22,7 +22,7 @@ pub fn put_kept(network: Network, kept: Kept, text: &mut [u8]) -> Reply
     let marks = kept.marks;
     let cost = kept_cost(network, kept);
     let unreserved = all_but_reserved(network);
-    write_kept(&marks[..edges], cost, unreserved, text)
+    write_kept(marks, edges, cost, unreserved, text)
 }
 
 // Checks any bytes proposed as a chain over a network text, and writes the kept text: the network's refusals, then the chain's, then 13.

@@ -3,36 +3,37 @@ use mathlib.Core.Path.{sym, _∙_}
 use native.Mathlib.Omega.{arith}
 use lib.Seq.{length-take-le}
 use borrow.Author.Needs.{needs}
-use Rattle.plan.proofs.Written.{written-fit}
+use Rattle.thinning.proofs.Longest.{bytes-of-longest-plan}
+use Rattle.plan.proofs.Written.{written-short}
 use Rattle.plan.proofs.answer.Statement.{statement}
 use Rattle.plan.proofs.answer.Tie as tie
 
-slice-aggregate-plan : tie.Need-slice-aggregate-plan
-slice-aggregate-plan c = search needs
+slice-aggregate-plan-roomy : tie.Need-slice-aggregate-plan-roomy
+slice-aggregate-plan-roomy c = search needs
 
-slice-aggregate-plan-2 : tie.Need-slice-aggregate-plan-2
-slice-aggregate-plan-2 c = search needs
+slice-aggregate-plan-roomy-2 : tie.Need-slice-aggregate-plan-roomy-2
+slice-aggregate-plan-roomy-2 c = search needs
 
-plan-requires : tie.Need-plan-requires
-plan-requires c κs = search needs
+plan-roomy-requires : tie.Need-plan-roomy-requires
+plan-roomy-requires c κs = (omega (arith, bytes-of-longest-plan), omega (arith, bytes-of-longest-plan))
 
 enum-known-chain-length : tie.Need-enum-known-chain-length
 enum-known-chain-length c = search needs
 
 array-share-prefix-chain : tie.Need-array-share-prefix-chain
-array-share-prefix-chain c = omega (arith, written-fit _ _ _ _ _ (sym (c .before .chain-length .given .1) ∙ c .before .before .before .before .before .plan .ensures .0) .0)
+array-share-prefix-chain c = omega (arith, bytes-of-longest-plan, written-short _ _ _ (sym (c .before .chain-length .given .1) ∙ c .before .before .before .before .before .plan-roomy .ensures .0) .0)
 
 slice-aggregate-write-all : tie.Need-slice-aggregate-write-all
-slice-aggregate-write-all c = sym (length-take-le _ (c .before .before .before .before .before .before .plan .last .1 .0) (array-share-prefix-chain (c .before)))
+slice-aggregate-write-all c = sym (length-take-le _ (c .before .before .before .before .before .before .plan-roomy .last .1 .0) (array-share-prefix-chain (c .before)))
 
 write-all-requires : tie.Need-write-all-requires
 write-all-requires c κs = search needs
 
 array-share-prefix-kept : tie.Need-array-share-prefix-kept
-array-share-prefix-kept c = let k = c .before .before in omega (arith, written-fit _ _ _ _ _ (sym (k .before .chain-length .given .1) ∙ k .before .before .before .before .before .plan .ensures .0) .1)
+array-share-prefix-kept c = let k = c .before .before in omega (arith, bytes-of-longest-plan, written-short _ _ _ (sym (k .before .chain-length .given .1) ∙ k .before .before .before .before .before .plan-roomy .ensures .0) .1)
 
 slice-aggregate-write-all-2 : tie.Need-slice-aggregate-write-all-2
-slice-aggregate-write-all-2 c = sym (length-take-le _ (c .before .before .before .before .before .before .before .before .plan .last .1 .1 .0) (array-share-prefix-kept (c .before)))
+slice-aggregate-write-all-2 c = sym (length-take-le _ (c .before .before .before .before .before .before .before .before .plan-roomy .last .1 .1 .0) (array-share-prefix-kept (c .before)))
 
 write-all-requires-2 : tie.Need-write-all-requires-2
 write-all-requires-2 c κs = search needs
@@ -53,9 +54,9 @@ pub answer-spec : {M : Type 1} → statement M
 answer-spec =
     tie.close
     (tie.spec
-    slice-aggregate-plan
-    slice-aggregate-plan-2
-    plan-requires
+    slice-aggregate-plan-roomy
+    slice-aggregate-plan-roomy-2
+    plan-roomy-requires
     enum-known-chain-length
     array-share-prefix-chain
     slice-aggregate-write-all

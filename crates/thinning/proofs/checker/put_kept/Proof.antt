@@ -1,10 +1,8 @@
 -- `thinning::checker::put_kept` meets its contract.
-use mathlib.Core.Path.{sym, _∙_, ap}
-use native.Mathlib.Omega.{arith}
-use lib.Seq.{length-take-le}
+use mathlib.Core.Path.{_∙_, ap}
 use borrow.Author.Needs.{needs}
-use Rattle.frame.specs.Answer.{replyOf, after}
-use Rattle.thinning.proofs.Keepings.{kept-written}
+use Rattle.frame.specs.Answer.{answer, replyOf, after}
+use Rattle.thinning.proofs.Keepings.{kept-text}
 use Rattle.thinning.proofs.checker.put_kept.Statement.{statement}
 use Rattle.thinning.proofs.checker.put_kept.Tie as tie
 
@@ -13,14 +11,6 @@ kept-cost-requires c κs = search needs
 
 all-but-reserved-requires : tie.Need-all-but-reserved-requires
 all-but-reserved-requires c κs = search needs
-
-array-share-prefix-marks : tie.Need-array-share-prefix-marks
-array-share-prefix-marks c = search needs
-
-slice-aggregate-write-kept : tie.Need-slice-aggregate-write-kept
-slice-aggregate-write-kept c =
-    let a = c .before .before .before .before .before in
-    sym (length-take-le _ (a .args .kept .marks) (omega (arith, a .pre .long, a .pre .edge-room)))
 
 write-kept-requires : tie.Need-write-kept-requires
 write-kept-requires c κs = search needs
@@ -31,11 +21,11 @@ same-length c = search needs
 returns : tie.Need-returns
 returns c =
     let w = c .before .before in
-    let r = w .before .before .before in
+    let r = w .before .before in
     let q = r .before in
     let a = q .before .before .before in
-    let e = kept-written (a .pre) (q .kept-cost .result) (r .all-but-reserved .result) (q .kept-cost .ensures) (r .all-but-reserved .ensures) in
-    (w .write-kept .ensures .0 ∙ ap (λ t. replyOf t (a .args .text .now)) e, w .write-kept .ensures .1 ∙ ap (λ t. after t (a .args .text .now)) e)
+    let e = kept-text (a .pre) (q .kept-cost .result) (r .all-but-reserved .result) (q .kept-cost .ensures) (r .all-but-reserved .ensures) in
+    (w .write-kept .ensures .0 ∙ ap (λ t. replyOf (answer t) (a .args .text .now)) e, w .write-kept .ensures .1 ∙ ap (λ t. after (answer t) (a .args .text .now)) e)
 
 pub put-kept-spec : {M : Type 1} → statement M
 put-kept-spec =
@@ -43,8 +33,6 @@ put-kept-spec =
     (tie.spec
     kept-cost-requires
     all-but-reserved-requires
-    array-share-prefix-marks
-    slice-aggregate-write-kept
     write-kept-requires
     same-length
     returns)
