@@ -9,13 +9,12 @@ use native.Mathlib.Nat.{zero-add}
 use lib.Dec.{lit<}
 use lib.ListN.{drop}
 use lib.IntN.{ℤ}
-use Rattle.frame.specs.Answer.{Answer, refused, answer, andThen}
+use Rattle.frame.specs.Answer.{Answer, refused, answer, andThen, FORM}
 use Rattle.frame.specs.Table.{HEAD}
 use Rattle.frame.specs.Line.{isLine, readLine}
 use Rattle.frame.specs.Kinds.{headOf}
 use Rattle.frame.specs.Frames.{Frames, broken, frame, framesOf}
 use Rattle.frame.specs.declared.line.Fields.{Fields}
-use Rattle.frame.specs.declared.line.Line.the-variants as line
 use Rattle.frame.specs.declared.kinds.Head.{Head}
 use Rattle.frame.specs.declared.kinds.Edge.{Edge}
 use Rattle.frame.proofs.Runs.{Next, run-broken}
@@ -75,7 +74,7 @@ no-frame : (b : Bool) (f : Fields) (fs : Frames) → cond b (frame f fs) broken 
 no-frame true f fs x = let z : _≡_ {A = ℕ} 0 1 = cc in absurd (omega arith)
 no-frame false f fs x = refl
 
-pub head-broken : (t : List ℕ) → line.Refused ≡ readLine HEAD t 0 → readNetwork t ≡ refused 1
+pub head-broken : (t : List ℕ) → refused FORM ≡ readLine HEAD t 0 → readNetwork t ≡ refused 1
 unfolding readNetwork framesOf
 head-broken t x = rw (no-frame (isLine HEAD t) _ _ (run-broken (HEAD ∷ []) t 0 0 HEAD (lit< tt) refl x))
 
