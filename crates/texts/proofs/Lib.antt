@@ -21,5 +21,6 @@ pub mod KeptTexts
 pub mod ListsOneToOne
 pub mod ListsTaken
 pub mod ListsTexts
+pub mod Numbered
 pub mod Pieces
 pub mod Words

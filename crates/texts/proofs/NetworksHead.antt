@@ -3,7 +3,7 @@
 use mathlib.Core.Path.{_≡_, refl, _∙_, ap}
 use mathlib.Core.Bool.{Bool, true, false, cond}
 use mathlib.Core.List.{List, [], _∷_}
-use Prim.Native.Nat.{ℕ, zero, suc, _*_, _≤_, _<_}
+use Prim.Native.Nat.{ℕ, suc, _*_, _≤_, _<_}
 use native.Mathlib.Omega.{arith}
 use native.Mathlib.Nat.{zero-add}
 use lib.Dec.{lit<}
@@ -19,29 +19,27 @@ use Rattle.frame.specs.declared.kinds.Head.{Head}
 use Rattle.frame.specs.declared.kinds.Edge.{Edge}
 use Rattle.frame.proofs.Runs.{Next, run-broken}
 use Rattle.texts.specs.Limits.{unless, refusalOf}
-use Rattle.texts.specs.Networks.{Edges, finished, interrupted, next, headRefusal, edgeRefusal, checked, meaningOf, edgesOf, readNetwork, readReply}
+use Rattle.texts.specs.Networks.{Meaning, Edges, finished, interrupted, next, headRefusal, edgeRefusal, checked, meaningOf, edgesOf, readNetwork, readReply}
 use Rattle.texts.specs.NetworksColumns.{EdgesRead, NetworkRead}
 use Rattle.texts.specs.declared.network.ReadNetwork.the-variants.{Read, Refused}
+use Rattle.texts.proofs.Numbered.{Numbered, unless-numbered, then-numbered}
 use Rattle.texts.proofs.NetworksEdges.{unless-refused, unless-next}
 
--- a refusal has a number
-unless-numbered : {M : Type 0} (j : ℕ) (a : Answer M) (k : ℕ) → (a ≡ refused k → 0 < k) → unless j a ≡ refused k → 0 < k
-unfolding unless
-unless-numbered zero a k h x = h x
-unless-numbered (suc j) a k h x = let z : suc j ≡ k = cc in omega arith
-
-then-numbered : {M N : Type 0} (a : Answer M) (f : M → N) (k : ℕ) → (a ≡ refused k → 0 < k) → andThen a (λ m. answer (f m)) ≡ refused k → 0 < k
-unfolding andThen
-then-numbered (refused j) f k h x = h (let z : j ≡ k = cc in ap refused z)
-then-numbered (answer m) f k h x = let z : _≡_ {A = ℕ} 0 1 = cc in absurd (omega arith)
-
-pub checked-numbered : (n place : ℕ) (es : Edges) (k : ℕ) → checked n place es ≡ refused k → 0 < k
+-- every refusal has a number
+pub checked-numbered : (n place : ℕ) (es : Edges) → Numbered (checked n place es)
 unfolding checked
-checked-numbered n place finished k x = let z : _≡_ {A = ℕ} 0 1 = cc in absurd (omega arith)
-checked-numbered n place interrupted k x = let z : 1 ≡ k = cc in omega arith
-checked-numbered n place (next e es) k x =
-    unless-numbered (edgeRefusal n place e) _ k
-    (then-numbered (checked n (suc place) es) (λ later. e ∷ later) k (checked-numbered n (suc place) es k)) x
+checked-numbered n place finished = tt
+checked-numbered n place interrupted = omega arith
+checked-numbered n place (next e es) =
+    unless-numbered (edgeRefusal n place e) _ (then-numbered (checked n (suc place) es) _ (checked-numbered n (suc place) es) (λ later. tt))
+
+pub read-numbered : (t : List ℕ) → Numbered (readNetwork t)
+unfolding readNetwork
+read-numbered t = go (isLine HEAD t) _ (unless-numbered _ _ (then-numbered _ _ (checked-numbered _ 0 _) (λ es. tt)))
+  where
+    go : (b : Bool) (a : Answer Meaning) → Numbered a → Numbered (cond b a (refused 1))
+    go true a h = h
+    go false a h = omega arith
 
 -- what edges that were read into columns say of the network
 module _ (t : List ℕ) (n r : ℕ) (es : Edges) (due : readNetwork t ≡ andThen (checked n 0 es) (λ later. answer (meaningOf n r later))) where
@@ -61,7 +59,7 @@ module _ (t : List ℕ) (n r : ℕ) (es : Edges) (due : readNetwork t ≡ andThe
       where
         go : (a : Answer (List Edge)) → checked n 0 es ≡ a → EdgesRead a low₀ high₀ cost₀ low high cost k
             → NetworkRead (andThen a (λ later. answer (meaningOf n r later))) low₀ high₀ cost₀ low high cost (Read n r)
-        go (refused j) p y = absurd (omega (arith, y .reply, checked-numbered n 0 es j p))
+        go (refused j) p y = absurd (omega (arith, y .reply, rw p at (checked-numbered n 0 es)))
         go (answer later) p y = record { reply = refl; lows = y .lows; highs = y .highs; costs = y .costs }
 
 -- the columns are as they were

@@ -7,8 +7,10 @@ use native.Mathlib.Omega.{arith}
 use lib.ListN.{length}
 use Rattle.frame.specs.Answer.{Answer, refused, answer, andThen}
 use Rattle.texts.specs.Limits.{unless}
-use Rattle.loading.specs.Loading.{loadNetwork, loadedBy}
-use Rattle.loading.proofs.Reading.{Known, loaded-known}
+use Rattle.texts.proofs.Numbered.{Numbered, unless-numbered, then-numbered}
+use Rattle.loading.specs.Known.{Known}
+use Rattle.loading.specs.Loading.{loadNetwork}
+use Rattle.loading.proofs.Reading.{load-numbered, loaded-known}
 use Rattle.graph.specs.Cut.{everyCut, fourEach, networkRefusal}
 use Rattle.graph.specs.Chain.{refused as refusedWith, keeps}
 use Rattle.graph.specs.State.{vertexLimit}
@@ -39,13 +41,13 @@ pub accept-refused : (t : List ℕ) (k : ℕ) → loadNetwork t ≡ refused k �
 unfolding acceptNetwork andThen
 accept-refused t k e = rw e
 
-pub accept-judged : (t : List ℕ) (g : Network) (k : ℕ) → loadNetwork t ≡ answer g → k ≡ networkRefusal g → loadedBy k g ≡ acceptNetwork t
+pub accept-judged : (t : List ℕ) (g : Network) (k : ℕ) → loadNetwork t ≡ answer g → k ≡ networkRefusal g → acceptNetwork t ≡ unless k (answer g)
 unfolding acceptNetwork andThen
-accept-judged t g k e q = rw (e, ← q) (same k)
-  where
-    same : (k : ℕ) → loadedBy k g ≡ unless k (answer g)
-    same zero = unfold loadedBy unless in refl
-    same (suc k) = unfold loadedBy unless in refl
+accept-judged t g k e q = rw (e, q)
+
+pub accept-numbered : (t : List ℕ) → Numbered (acceptNetwork t)
+unfolding acceptNetwork
+accept-numbered t = then-numbered (loadNetwork t) _ (load-numbered t) (λ g. unless-numbered (networkRefusal g) _ tt)
 
 pub answered-refused : (a : Answer Network) (k : ℕ) → a ≡ refused k → Refused k ≡ acceptanceOf a
 unfolding acceptanceOf
