@@ -4,7 +4,7 @@ use mathlib.Core.Path.{_≡_, refl}
 use mathlib.Core.List.{List, [], _∷_, map}
 use Prim.Native.Nat.{ℕ}
 use lib.IntN.{negsuc}
-use Rattle.frame.specs.Answer.{refused, answer, FORM}
+use Rattle.frame.specs.Answer.{refused, answer}
 use Rattle.frame.specs.Table.{KEPT, COSTS, REFUSAL, kindOf, padded, bytesOf, total, placeOf, startOf, digitsOf, widths, lineLength}
 use Rattle.frame.specs.Digits.{valueOf, digitOf, allDigits, numberOf, spell}
 use Rattle.frame.specs.Sign.{unsignedOf}
@@ -41,6 +41,6 @@ broken =
     (48 ∷ 52 ∷ 48 ∷ 48 ∷ 48 ∷ 49 ∷ 10 ∷ []) ∷
     (48 ∷ 53 ∷ 48 ∷ 48 ∷ 48 ∷ 49 ∷ 48 ∷ 53 ∷ 48 ∷ 48 ∷ 48 ∷ 10 ∷ []) ∷ []
 
-all-refused : map (λ t. readLine KEPT t 0) broken ≡ map (λ t. refused FORM) broken
+all-refused : map (λ t. readLine KEPT t 0) broken ≡ map (λ t. refused 1) broken
 unfolding broken kindOf padded bytesOf total placeOf startOf digitsOf widths lineLength valueOf allDigits numberOf valuesOf fieldsOf isLine lineAt readLine
 all-refused = refl
