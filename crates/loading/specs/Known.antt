@@ -13,8 +13,9 @@ pub record Known (g : Network) : Type 0 where
   pub light : Light g
   -- it has at least two vertices
   pub several : 2 ≤ g .vertices
-  -- the state has room for its vertices and its edges
+  -- the state has room for its vertices
   pub vertex-room : g .vertices ≤ vertexLimit
+  -- and for its edges
   pub edge-room : g .edges ≤ edgeLimit
-  -- its columns have the state's length
+  -- its column of lower ends is as long as the state's
   pub long : length (g .low) ≡ edgeLimit

@@ -38,7 +38,10 @@ nothing-requires c κs = search needs
 
 returns-2 : tie.Need-returns-2
 unfolding loadedOf
-returns-2 c = rw (c .nothing .ensures, judged (c .before .before), unless-refused _ _ (c .before .if2 .taken))
+returns-2 c =
+    let n = c .before .before in
+    ap (λ g. record { refusal = n .network-refusal .result; network = g }) (c .nothing .ensures)
+    ∙ ap loadedOf (sym (judged n ∙ unless-refused _ _ (c .before .if2 .taken)))
 
 returns-3 : tie.Need-returns-3
 returns-3 c =
