@@ -4,15 +4,15 @@ use mathlib.Core.Path.{_≡_, refl}
 use mathlib.Core.List.{List, [], _∷_, map}
 use Prim.Native.Nat.{ℕ}
 use lib.IntN.{negsuc}
+use Rattle.frame.specs.Answer.{refused, answer}
 use Rattle.frame.specs.Table.{KEPT, COSTS, REFUSAL, kindOf, padded, bytesOf, total, placeOf, startOf, digitsOf, widths, lineLength}
 use Rattle.frame.specs.Digits.{valueOf, digitOf, allDigits, numberOf, spell}
 use Rattle.frame.specs.Sign.{unsignedOf}
-use Rattle.frame.specs.Line.{spellAll, valuesOf, lineOf, fieldsOf, isLine, lineAt, readLine}
+use Rattle.frame.specs.Line.{spellAll, valuesOf, lineOf, fieldsOf, isLine, placed, lineAt, readLine}
 use Rattle.frame.specs.Kinds.{ofKept, keptDigits, unreservedDigits, ofCosts, ofRefusal}
-use Rattle.frame.specs.declared.line.Line.the-variants.{Frame, Refused}
 
 -- the last edge of the printed kept text, with the place behind its line
-kept-read : readLine KEPT (48 ∷ 53 ∷ 48 ∷ 48 ∷ 48 ∷ 53 ∷ 10 ∷ []) 0 ≡ Frame (ofKept (record { edge = 5 })) 7
+kept-read : readLine KEPT (48 ∷ 53 ∷ 48 ∷ 48 ∷ 48 ∷ 53 ∷ 10 ∷ []) 0 ≡ answer (placed (ofKept (record { edge = 5 })) 7)
 unfolding kindOf padded bytesOf total placeOf startOf digitsOf widths lineLength valueOf allDigits numberOf valuesOf fieldsOf isLine lineAt readLine
 kept-read = refl
 
@@ -41,6 +41,6 @@ broken =
     (48 ∷ 52 ∷ 48 ∷ 48 ∷ 48 ∷ 49 ∷ 10 ∷ []) ∷
     (48 ∷ 53 ∷ 48 ∷ 48 ∷ 48 ∷ 49 ∷ 48 ∷ 53 ∷ 48 ∷ 48 ∷ 48 ∷ 10 ∷ []) ∷ []
 
-all-refused : map (λ t. readLine KEPT t 0) broken ≡ map (λ t. Refused) broken
+all-refused : map (λ t. readLine KEPT t 0) broken ≡ map (λ t. refused 1) broken
 unfolding broken kindOf padded bytesOf total placeOf startOf digitsOf widths lineLength valueOf allDigits numberOf valuesOf fieldsOf isLine lineAt readLine
 all-refused = refl

@@ -9,13 +9,12 @@ use native.Mathlib.Numerals.{add-one}
 use lib.ListN.{length, take, drop, getD, set, replicate, length-set, length-drop}
 use lib.Seq.{drop-cons, drop-drop, length-take-le, drop-set-lt, getD-set-same, take-suc-set, take-all, append-snoc}
 use borrow.Rule.Slice.PartMut.{putMid}
-use Rattle.frame.specs.Answer.{over}
+use Rattle.frame.specs.Answer.{refused, answer, FORM, over}
 use Rattle.frame.specs.Table.{rows, fields, kindOf, widths, total, startOf, digitsOf, lineLength}
 use Rattle.frame.specs.Digits.{allDigits, numberIn, spell}
-use Rattle.frame.specs.Line.{FEED, kindDigits, listOf, fieldsFrom, spellAll, valuesOf, lineOf, fieldsOf, fieldsLine}
+use Rattle.frame.specs.Line.{FEED, kindDigits, listOf, fieldsFrom, spellAll, valuesOf, lineOf, fieldsOf, placed, fieldsLine}
 use Rattle.frame.specs.declared.digits.Number.the-variants.{Spelt, Broken}
 use Rattle.frame.specs.declared.line.Fields.{Fields}
-use Rattle.frame.specs.declared.line.Line.the-variants.{Frame, Refused}
 use Rattle.frame.proofs.Spelling.{number-is, number-broken, spell-append}
 use Rattle.frame.proofs.Columns.{digits-parts}
 use Rattle.frame.proofs.Lines.{line-before, line-over}
@@ -62,7 +61,7 @@ module _ (row : ℕ) (line values : List ℕ) (k : ℕ) (r : ReadTo row line val
         ∙ ap (λ (ds : List ℕ). allDigits (take (total ds) (drop (startOf row k) line))) (widths-next row k h)
         ∙ rw (← behind row k line) (digits-parts (digitsOf row k) (total (drop (k + 1) (widths row))) (drop (startOf row k) line))
 
-    pub read-stop : (next : ℕ) → Broken ≡ numberIn (take (digitsOf row k) (drop (startOf row k) line)) → Refused ≡ fieldsLine row line next
+    pub read-stop : (next : ℕ) → Broken ≡ numberIn (take (digitsOf row k) (drop (startOf row k) line)) → refused FORM ≡ fieldsLine row line next
     unfolding fieldsLine
     read-stop next e = rw (parted, number-broken _ e)
 
@@ -80,7 +79,7 @@ module _ (row : ℕ) (line values : List ℕ) (k : ℕ) (r : ReadTo row line val
           digits = sym (rw (n .0) at parted);
         }
 
-  pub read-all : (next : ℕ) → fields ≤ k → Frame (fieldsFrom values) next ≡ fieldsLine row line next
+  pub read-all : (next : ℕ) → fields ≤ k → answer (placed (fieldsFrom values) next) ≡ fieldsLine row line next
   unfolding fieldsLine fieldsOf total valuesOf allDigits
   read-all next h =
       let w = widths-end row k h in

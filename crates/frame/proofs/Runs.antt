@@ -1,6 +1,6 @@
 -- Runs of frames, read frame by frame.
 -- Assumes nothing.
-use mathlib.Core.Path.{_≡_, refl, _∙_, ap}
+use mathlib.Core.Path.{_≡_, refl, sym, _∙_, ap}
 use mathlib.Core.Bool.{Bool, true, false, cond}
 use mathlib.Core.List.{List, [], _∷_}
 use Prim.Native.Nat.{ℕ, zero, suc, _+_, _/_, _≤_, _<_}
@@ -9,12 +9,17 @@ use native.Mathlib.Numerals.{add-one}
 use native.Mathlib.Nat.{zero-div, add-div-left}
 use lib.ListN.{length, drop, getD, replicate, length-drop, drop-of-length-le}
 use lib.Seq.{drop-cons, drop-drop}
+use Rattle.frame.specs.Answer.{Answer, refused, answer, FORM}
 use Rattle.frame.specs.Table.{lineLength}
-use Rattle.frame.specs.Line.{fieldsOf, isLine, lineAt, readLine, Fits}
+use Rattle.frame.specs.Line.{Placed, placed, answerOf, fieldsOf, isLine, lineAt, readLine, Fits}
 use Rattle.frame.specs.Frames.{done, broken, frame, framesOf, framesToEnd}
 use Rattle.frame.specs.declared.line.Fields.{Fields}
-use Rattle.frame.specs.declared.line.Line.the-variants.{Frame, Refused}
+use Rattle.frame.specs.declared.line.Line.{Line}
 use Rattle.frame.proofs.Lines.{formed, line-fits}
+
+-- what is read at a place, by the case that a reader finds
+pub read-as : {l case : Line} {a : Answer Placed} → l ≡ case → answerOf l ≡ a → answerOf case ≡ a
+read-as e r = ap answerOf (sym e) ∙ r
 
 -- what a reader learns from a line that it reads at a place
 pub record Next (row at : ℕ) (text : List ℕ) (f : Fields) (next : ℕ) : Type 0 where
@@ -26,12 +31,12 @@ pub record Next (row at : ℕ) (text : List ℕ) (f : Fields) (next : ℕ) : Typ
   pub fits : Fits row f
 
 module _ (row at : ℕ) (text : List ℕ) where
-  pub next-read : (f : Fields) (next : ℕ) → Frame f next ≡ readLine row text at → Next row at text f next
+  pub next-read : (f : Fields) (next : ℕ) → answer (placed f next) ≡ readLine row text at → Next row at text f next
   unfolding readLine lineAt lineLength
   next-read f next e = go (isLine row (drop at text)) refl e
     where
       go : (b : Bool) → isLine row (drop at text) ≡ b
-          → Frame f next ≡ cond b (Frame (fieldsOf row (drop at text)) (at + lineLength row)) Refused → Next row at text f next
+          → answer (placed f next) ≡ cond b (answer (placed (fieldsOf row (drop at text)) (at + lineLength row))) (refused FORM) → Next row at text f next
       go true i e =
           let p : f ≡ fieldsOf row (drop at text) = cc in
           let q : next ≡ at + lineLength row = cc in
@@ -46,12 +51,12 @@ module _ (row at : ℕ) (text : List ℕ) where
           }
       go false i e = let z : _≡_ {A = ℕ} 0 1 = cc in absurd (omega arith)
 
-  pub none-read : Refused ≡ readLine row text at → isLine row (drop at text) ≡ false
+  pub none-read : refused FORM ≡ readLine row text at → isLine row (drop at text) ≡ false
   unfolding readLine lineAt
   none-read e = go (isLine row (drop at text)) refl e
     where
       go : (b : Bool) → isLine row (drop at text) ≡ b
-          → Refused ≡ cond b (Frame (fieldsOf row (drop at text)) (at + lineLength row)) Refused → isLine row (drop at text) ≡ false
+          → refused FORM ≡ cond b (answer (placed (fieldsOf row (drop at text)) (at + lineLength row))) (refused FORM) → isLine row (drop at text) ≡ false
       go true i e = let z : _≡_ {A = ℕ} 0 1 = cc in absurd (omega arith)
       go false i e = i
 
@@ -61,7 +66,7 @@ module _ (row at : ℕ) (text : List ℕ) where
     unfolding framesOf
     frames-next f next x = rw (x .is, x .fields, x .place, drop-drop)
 
-    frames-broken : Refused ≡ readLine row text at → framesOf (row ∷ due) (drop at text) ≡ broken
+    frames-broken : refused FORM ≡ readLine row text at → framesOf (row ∷ due) (drop at text) ≡ broken
     unfolding framesOf
     frames-broken e = rw (none-read e)
 
@@ -84,7 +89,7 @@ module _ (due text : List ℕ) (i at : ℕ) where
     pub run-next : (f : Fields) (next : ℕ) → Next row at text f next → framesOf (drop i due) (drop at text) ≡ frame f (framesOf (drop (i + 1) due) (drop next text))
     run-next f next x = rw due-next (frames-next row at text (drop (i + 1) due) f next x)
 
-    pub run-broken : Refused ≡ readLine row text at → framesOf (drop i due) (drop at text) ≡ broken
+    pub run-broken : refused FORM ≡ readLine row text at → framesOf (drop i due) (drop at text) ≡ broken
     run-broken x = rw due-next (frames-broken row at text (drop (i + 1) due) x)
 
   module _ (h : length due ≤ i) where
@@ -105,7 +110,7 @@ module _ (row at : ℕ) (text : List ℕ) where
       ap (λ (m : ℕ). m / lineLength row) n ∙ add-div-left (length (drop next text)) {k = lineLength row} (omega arith) ∙ add-one _ in
       rw q (frames-next row at text (replicate (length (drop next text) / lineLength row) row) f next x)
 
-  pub end-broken : at < length text → Refused ≡ readLine row text at → framesToEnd row (drop at text) ≡ broken
+  pub end-broken : at < length text → refused FORM ≡ readLine row text at → framesToEnd row (drop at text) ≡ broken
   unfolding framesToEnd
   end-broken h e = go (length (drop at text) / lineLength row)
     where

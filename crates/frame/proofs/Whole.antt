@@ -8,11 +8,11 @@ use native.Mathlib.Omega.{arith}
 use native.Mathlib.Nat.{zero-mul, suc-mul, mul-div-cancel}
 use lib.ListN.{length, take, drop, getD, replicate, length-append, length-replicate}
 use lib.Seq.{drop-at}
+use Rattle.frame.specs.Answer.{answer}
 use Rattle.frame.specs.Table.{lineLength, total}
-use Rattle.frame.specs.Line.{lineOf, fieldsOf, isLine, lineAt, readLine, Fits}
+use Rattle.frame.specs.Line.{lineOf, fieldsOf, isLine, placed, lineAt, readLine, Fits}
 use Rattle.frame.specs.Frames.{broken, frame, framesOf, framesToEnd, listed, linesOf, textLength, AllFit}
 use Rattle.frame.specs.declared.line.Fields.{Fields}
-use Rattle.frame.specs.declared.line.Line.the-variants.{Frame}
 use Rattle.frame.proofs.Lines.{length-line, line-rest, line-is, fields-found, line-back, line-fits}
 
 -- the frames are found again in their text
@@ -51,7 +51,7 @@ whole (row ∷ due) t fs e = go (isLine row t) refl fs (whole due (drop (lineLen
 
 -- a line that was written is read, wherever it stands
 pub line-read : (row at : ℕ) (f : Fields) (front rest : List ℕ) → length front ≡ at → Fits row f
-    → readLine row (front ++ (lineOf row f ++ rest)) at ≡ Frame f (at + lineLength row)
+    → readLine row (front ++ (lineOf row f ++ rest)) at ≡ answer (placed f (at + lineLength row))
 unfolding readLine lineAt
 line-read row at f front rest e x =
     rw (drop-at front (lineOf row f ++ rest) at e, line-is row f rest, fields-found row f rest x)

@@ -17,6 +17,10 @@ unfoldable pub andThen : {M N : Type 0} → Answer M → (M → Answer N) → An
 andThen (refused k) f = refused k
 andThen (answer m) f = f m
 
+-- refusal 1, of a text's form
+abbrev pub FORM : ℕ
+FORM = 1
+
 -- refusal 13, of a buffer that is too short
 abbrev pub SHORT : ℕ
 SHORT = 13

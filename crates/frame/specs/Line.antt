@@ -4,6 +4,7 @@ use mathlib.Core.List.{List, [], _∷_}
 use Prim.Native.Nat.{ℕ, _+_, _^_, _<_}
 use lib.Dec.{leb, eqb}
 use lib.ListN.{length, take, drop, getD}
+use Rattle.frame.specs.Answer.{Answer, refused, answer, FORM}
 use Rattle.frame.specs.Table.{fields, kindOf, widths, total, startOf, lineLength}
 use Rattle.frame.specs.Digits.{allDigits, numberOf, spell}
 use Rattle.frame.specs.declared.line.Fields.{Fields}
@@ -58,18 +59,27 @@ isLine row t =
     (eqb (getD t (startOf row fields) 0) FEED &&
     (allDigits (take (startOf row fields) t) && eqb (numberOf 0 (take kindDigits t)) (kindOf row)))
 
--- the frame of the line that t starts with, and the place behind it, or a refusal
-unfoldable pub lineAt : ℕ → List ℕ → ℕ → Line
-lineAt row t next = cond (isLine row t) (Frame (fieldsOf row t) next) Refused
+-- a frame's fields, and the place behind its line
+pub data Placed : Type 0 where
+  placed : (frame : Fields) (next : ℕ) → Placed
+
+-- what each case of a Line says: the frame, or refusal 1
+abbrev pub answerOf : Line → Answer Placed
+answerOf (Frame f next) = answer (placed f next)
+answerOf Refused = refused FORM
+
+-- the frame of the line that t starts with, with the place behind it, or refusal 1
+unfoldable pub lineAt : ℕ → List ℕ → ℕ → Answer Placed
+lineAt row t next = cond (isLine row t) (answer (placed (fieldsOf row t) next)) (refused FORM)
 
 -- what stands at a place of a text
-unfoldable pub readLine : ℕ → List ℕ → ℕ → Line
+unfoldable pub readLine : ℕ → List ℕ → ℕ → Answer Placed
 readLine row text at = lineAt row (drop at text) (at + lineLength row)
 
 -- the frame of a line whose kind and feed are right
-unfoldable pub fieldsLine : ℕ → List ℕ → ℕ → Line
+unfoldable pub fieldsLine : ℕ → List ℕ → ℕ → Answer Placed
 fieldsLine row t next =
-    cond (allDigits (take (total (widths row)) (drop kindDigits t))) (Frame (fieldsOf row t) next) Refused
+    cond (allDigits (take (total (widths row)) (drop kindDigits t))) (answer (placed (fieldsOf row t) next)) (refused FORM)
 
 -- each number has room in its digits
 abbrev pub FitAll : List ℕ → List ℕ → Type 0

@@ -13,7 +13,7 @@ ghost use lib.ListN.{length, take, drop};
 ghost use Rattle.frame.specs.Answer.{over};
 ghost use Rattle.frame.specs.Table.{rows, fields, startOf, digitsOf, lineLength};
 ghost use Rattle.frame.specs.Digits.{digitValues, numberIn, spell};
-ghost use Rattle.frame.specs.Line.{fieldsFrom, listOf, lineAt, readLine, fieldsLine, lineOf};
+ghost use Rattle.frame.specs.Line.{fieldsFrom, listOf, answerOf, lineAt, readLine, fieldsLine, lineOf};
 
 const LINE_FEED: u8 = 10;
 
@@ -87,7 +87,7 @@ fn put_field(out: &mut [u8], row: usize, field: usize, number: u64)
 // The fields of a line, with the place behind it, where the bytes at their places are digits.
 fn read_fields(line: &[u8], row: usize, next: usize, values: &[u8; 256]) -> Line
     requires { ⌜ (row < rows) × (startOf row fields ≤ length (now line)) × (now values ≡ digitValues) ⌝ }
-    ensures { λ r. ⌜ r ≡ fieldsLine row (now (line .entry)) next ⌝ }
+    ensures { λ r. ⌜ answerOf r ≡ fieldsLine row (now (line .entry)) next ⌝ }
 {
     let mut numbers = [0u64; FIELDS];
     let mut k = 0;
@@ -104,7 +104,7 @@ fn read_fields(line: &[u8], row: usize, next: usize, values: &[u8; 256]) -> Line
 // The frame of a row's kind whose line `line` starts with, with the place behind the line.
 fn line_at(line: &[u8], row: usize, next: usize, values: &[u8; 256]) -> Line
     requires { ⌜ (row < rows) × (now values ≡ digitValues) ⌝ }
-    ensures { λ r. ⌜ r ≡ lineAt row (now (line .entry)) next ⌝ }
+    ensures { λ r. ⌜ answerOf r ≡ lineAt row (now (line .entry)) next ⌝ }
 {
     let end = start_of(row, FIELDS);
     if line.len() <= end {
@@ -125,7 +125,7 @@ fn line_at(line: &[u8], row: usize, next: usize, values: &[u8; 256]) -> Line
 // The frame of a row's kind at a place of a text.
 pub fn read_line(text: &[u8], at: usize, row: usize) -> Line
     requires { ⌜ row < rows ⌝ }
-    ensures { λ r. ⌜ r ≡ readLine row (now (text .entry)) at ⌝ }
+    ensures { λ r. ⌜ answerOf r ≡ readLine row (now (text .entry)) at ⌝ }
 {
     if text.len() < at {
         return Line::Refused;

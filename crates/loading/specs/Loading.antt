@@ -1,7 +1,8 @@
 -- The state of a network that is read from its text.
+use mathlib.Core.Bool.{false}
 use mathlib.Core.List.{List}
 use mathlib.Core.Path.{_≡_}
-use Prim.Native.Nat.{ℕ, zero, suc, _*_, _≤_, _<_}
+use Prim.Native.Nat.{ℕ, _*_, _≤_, _<_}
 use lib.Dec.{ltb}
 use lib.ListN.{length, getD, replicate}
 use lib.IntN.{ℤ, pos}
@@ -36,6 +37,20 @@ networkOf m =
 unfoldable pub loadNetwork : List ℕ → Answer Network
 loadNetwork t = andThen (readNetwork t) (λ m. answer (networkOf m))
 
+-- the network without vertices and edges, which stands where a refusal leaves none
+unfoldable pub noNetwork : Network
+noNetwork =
+    record {
+      low = replicate edgeLimit 0;
+      high = replicate edgeLimit 0;
+      cost = replicate edgeLimit (pos 0);
+      present = replicate vertexLimit false;
+      reserved = 0;
+      edges = 0;
+      vertices = 0;
+      remaining = 0;
+    }
+
 -- ── what the code asks for and answers ──
 
 -- a column of numbers that fit a byte, and a column of bytes as long
@@ -51,10 +66,7 @@ pub record Stated (n : ℕ) (low high : List ℕ) : Type 0 where
   pub low-small : (i : ℕ) → i < edgeLimit → getD low i 0 < 256
   pub high-small : (i : ℕ) → i < edgeLimit → getD high i 0 < 256
 
--- a refusal's number, or the network where it is 0
-unfoldable pub loadedBy : ℕ → Network → Answer Network
-loadedBy zero g = answer g
-loadedBy (suc k) g = refused (suc k)
-
-abbrev pub loadedOf : Loaded → Answer Network
-loadedOf r = loadedBy (r .refusal) (r .network)
+-- a refusal's number and no network, or 0 and the network
+unfoldable pub loadedOf : Answer Network → Loaded
+loadedOf (refused k) = record { refusal = k; network = noNetwork }
+loadedOf (answer g) = record { refusal = 0; network = g }

@@ -10,9 +10,9 @@ ghost use lib.Dec.{ltb};
 ghost use lib.ListN.{length};
 ghost use Rattle.graph.specs.Fold.{tabulate};
 ghost use Rattle.graph.specs.State.{vertexLimit};
-ghost use Rattle.loading.specs.Loading.{loadNetwork, loadedOf, stateOf, Narrow, Stated};
+ghost use Rattle.loading.specs.Loading.{loadNetwork, loadedOf, stateOf, noNetwork, Narrow, Stated};
 
-// A refusal's number, or 0 and the network.
+// A refusal's number and no network, or 0 and the network.
 pub struct Loaded {
     pub refusal: u8,
     pub network: Network,
@@ -71,8 +71,10 @@ fn state(
     }
 }
 
-// A network without vertices, for a text that has none.
-fn nothing() -> Network {
+// The network without vertices and edges, which is handed back with a refusal.
+pub fn nothing() -> Network
+    ensures { λ r. ⌜ r ≡ noNetwork ⌝ }
+{
     Network {
         low: [0; EDGE_LIMIT],
         high: [0; EDGE_LIMIT],
@@ -87,7 +89,7 @@ fn nothing() -> Network {
 
 // Reads a network text into the state: the text's first refusal, or the network.
 pub fn load(text: &[u8]) -> Loaded
-    ensures { λ r. ⌜ loadedOf r ≡ loadNetwork (now (text .entry)) ⌝ }
+    ensures { λ r. ⌜ r ≡ loadedOf (loadNetwork (now (text .entry))) ⌝ }
 {
     let mut low = [0u16; EDGE_LIMIT];
     let mut high = [0u16; EDGE_LIMIT];

@@ -8,13 +8,12 @@ use native.Mathlib.Omega.{arith}
 use native.Mathlib.Nat.{sub-zero}
 use lib.ListN.{length, take, drop, getD, set, replicate, length-append, length-replicate, getD-replicate, List·getD-append}
 use lib.Seq.{append-snoc, getD-at}
-use Rattle.frame.specs.Answer.{Answer, refused, answer, andThen}
+use Rattle.frame.specs.Answer.{Answer, refused, answer, andThen, FORM}
 use Rattle.frame.specs.Table.{STEP, DROPPED}
 use Rattle.frame.specs.Line.{readLine}
 use Rattle.frame.specs.Kinds.{stepOf, droppedOf}
 use Rattle.frame.specs.Frames.{framesOf}
 use Rattle.frame.specs.declared.line.Fields.{Fields}
-use Rattle.frame.specs.declared.line.Line.the-variants.{Refused}
 use Rattle.frame.specs.declared.kinds.Step.{Step}
 use Rattle.frame.proofs.Runs.{Next, run-next, run-broken, run-left, run-done}
 use Rattle.texts.specs.Limits.{fewestVertices, verticesOk}
@@ -88,7 +87,7 @@ module _ (n : ℕ) (text v x y : List ℕ) (at i : ℕ) (t : Taken n text v x y 
     within : i < length (rowsOf (n - fewestVertices))
     within = omega (arith, rows-count (n - fewestVertices))
 
-    pub taken-broken : Refused ≡ readLine STEP text at → refused 1 ≡ readChain n text
+    pub taken-broken : refused FORM ≡ readLine STEP text at → refused 1 ≡ readChain n text
     unfolding following andThen inFrames
     taken-broken e =
         rw (left, run-broken (rowsOf (n - fewestVertices)) text i at STEP within (row-step (n - fewestVertices) i h) e) at (t .all)
@@ -119,7 +118,7 @@ module _ (n : ℕ) (text v x y : List ℕ) (at i : ℕ) (t : Taken n text v x y 
     row-last : DROPPED ≡ getD (rowsOf (n - fewestVertices)) i 0
     row-last = rw h (row-dropped (n - fewestVertices))
 
-    pub ending-broken : Refused ≡ readLine DROPPED text at → refused 1 ≡ readChain n text
+    pub ending-broken : refused FORM ≡ readLine DROPPED text at → refused 1 ≡ readChain n text
     unfolding following andThen inFrames
     ending-broken e = rw (none-left, run-broken (rowsOf (n - fewestVertices)) text i at DROPPED last row-last e) at (t .all)
 

@@ -10,7 +10,6 @@ pub mod NetworksLongest
 pub mod NetworksChecking
 pub mod NetworksWriting
 pub mod NetworksText
-pub mod NetworksRefusals
 pub mod NetworksRoundTrip
 pub mod NetworksExamples
 pub mod ChainsColumns
@@ -23,5 +22,6 @@ pub mod KeptTexts
 pub mod ListsOneToOne
 pub mod ListsTaken
 pub mod ListsTexts
+pub mod Numbered
 pub mod Pieces
 pub mod Words

@@ -6,13 +6,12 @@ use Prim.Native.Nat.{ℕ, _+_, _*_, _≤_, _<_}
 use native.Mathlib.Omega.{arith}
 use lib.ListN.{length, drop, getD, set, replicate, length-set, length-replicate, getD-replicate}
 use lib.IntN.{ℤ}
-use Rattle.frame.specs.Answer.{refused, over}
+use Rattle.frame.specs.Answer.{refused, over, FORM}
 use Rattle.frame.specs.Table.{EDGE}
 use Rattle.frame.specs.Line.{readLine}
 use Rattle.frame.specs.Kinds.{edgeOf}
 use Rattle.frame.specs.Frames.{framesOf}
 use Rattle.frame.specs.declared.line.Fields.{Fields}
-use Rattle.frame.specs.declared.line.Line.the-variants.{Refused}
 use Rattle.frame.specs.declared.kinds.Edge.{Edge}
 use Rattle.frame.proofs.Runs.{Next, run-next, run-broken, run-left, run-done}
 use Rattle.texts.specs.Limits.{refusalOf}
@@ -72,7 +71,7 @@ module _ {n : ℕ} {text : List ℕ} {first : ℕ} {low₀ high₀ : List ℕ} {
     row-due : EDGE ≡ getD (replicate (2 * n) EDGE) i 0
     row-due = sym (getD-replicate (2 * n) i EDGE 0 h)
 
-    pub reading-broken : Refused ≡ readLine EDGE text at → Replies 1
+    pub reading-broken : refused FORM ≡ readLine EDGE text at → Replies 1
     unfolding inFrames
     reading-broken x =
         let y = run-broken (replicate (2 * n) EDGE) text i at EDGE (omega (arith, rows-due)) row-due x in

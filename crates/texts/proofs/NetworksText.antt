@@ -102,7 +102,7 @@ module _ (n r : ℕ) (low high : List ℕ) (cost : List ℤ) where
     whole p = go (checked n 0 edges) refl p
       where
         go : (a : Answer (List Edge)) → checked n 0 edges ≡ a → refusalOf a ≤ 0 → Whole
-        go (refused k) x p = absurd (omega (arith, checked-numbered n 0 edges k x))
+        go (refused k) x p = absurd (omega (arith, checked-numbered n 0 edges .number k x .0))
         go (answer es) x p =
             let c = complete n 0 edges es x in
             let f = full (2 * n) 0 low high cost es (c .all) in

@@ -8,14 +8,17 @@ use lib.ListN.{length}
 use Rattle.frame.specs.Answer.{Answer, refused, answer, andThen}
 use Rattle.texts.specs.Limits.{unless}
 use Rattle.texts.specs.Networks.{Meaning, readNetwork}
-use Rattle.loading.specs.Loading.{networkOf, loadNetwork, loadedBy}
-use Rattle.loading.proofs.Reading.{Known, loaded-known}
+use Rattle.texts.proofs.Numbered.{Numbered, answered, unless-numbered, then-numbered, numbered-up}
+use Rattle.loading.specs.Known.{Known}
+use Rattle.loading.specs.Loading.{networkOf, loadNetwork}
+use Rattle.loading.proofs.Reading.{load-numbered, loaded-known}
 use Rattle.graph.specs.Cut.{everyCut, fourEach, networkRefusal}
 use Rattle.graph.specs.Chain.{refused as refusedWith, keeps}
 use Rattle.graph.specs.State.{vertexLimit}
 use Rattle.graph.specs.declared.Network.{Network}
 use Rattle.graph.proofs.Backs.{passes-good}
 use Rattle.graph.proofs.Condition.{accepted-sound, fresh-remaining}
+use Rattle.graph.proofs.Numbers.{network-number}
 use Rattle.thinning.specs.declared.network.Acceptance.the-variants.{Accepted, Refused}
 use Rattle.thinning.specs.Running.{Running, Keeping}
 use Rattle.thinning.specs.Verdicts.{checkChain}
@@ -41,13 +44,14 @@ pub accept-refused : (t : List ℕ) (k : ℕ) → loadNetwork t ≡ refused k �
 unfolding acceptNetwork andThen
 accept-refused t k e = rw e
 
-pub accept-judged : (t : List ℕ) (g : Network) (k : ℕ) → loadNetwork t ≡ answer g → k ≡ networkRefusal g → loadedBy k g ≡ acceptNetwork t
+pub accept-judged : (t : List ℕ) (g : Network) (k : ℕ) → loadNetwork t ≡ answer g → k ≡ networkRefusal g → acceptNetwork t ≡ unless k (answer g)
 unfolding acceptNetwork andThen
-accept-judged t g k e q = rw (e, ← q) (same k)
-  where
-    same : (k : ℕ) → loadedBy k g ≡ unless k (answer g)
-    same zero = unfold loadedBy unless in refl
-    same (suc k) = unfold loadedBy unless in refl
+accept-judged t g k e q = rw (e, q)
+
+-- the refusals of the network check are 1 to 7
+pub accept-numbered : (t : List ℕ) → Numbered 7 (acceptNetwork t)
+unfolding acceptNetwork
+accept-numbered t = then-numbered (loadNetwork t) _ (numbered-up (omega arith) (load-numbered t)) (λ g. unless-numbered (networkRefusal g) _ (network-number g) (answered g))
 
 pub answered-refused : (a : Answer Network) (k : ℕ) → a ≡ refused k → Refused k ≡ acceptanceOf a
 unfolding acceptanceOf

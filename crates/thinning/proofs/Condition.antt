@@ -37,9 +37,9 @@ use Rattle.thinning.specs.Plans.{planChain}
 use Rattle.thinning.specs.Services.{acceptNetwork, keptOf, keptIn, checkChainText, chainReply, keptAfter, Texts, textsOf, planText, planRoom, planGiven, planReply}
 use Rattle.thinning.specs.Condition.{CrossesEach, Accepted, reserving, Ruled, Rising, Owed, Passes, PlanWrites, Claim}
 use Rattle.thinning.proofs.ChainTexts.{bytes-meant, meaning-passes}
-use Rattle.thinning.proofs.Accepting.{not-refused, accepted-whole, whole-accepted, accepted-running, chain-network-refused, chain-kept}
+use Rattle.thinning.proofs.Accepting.{not-refused, accept-numbered, accepted-whole, whole-accepted, accepted-running, chain-network-refused, chain-kept}
 use Rattle.thinning.proofs.Handing.{handed-refused, handed-over, plan-refused}
-use Rattle.thinning.proofs.Meets.{chain-meets, network-meets}
+use Rattle.thinning.proofs.Meets.{chain-meets}
 
 -- ── the edges that a kept text lists ──
 same-pick : (n k : ℕ) (p : ℕ → Bool) → keptPick n k p ≡ pick n k p
@@ -279,6 +279,6 @@ claim = record {
   untouched = untouched;
   planned = λ a. (due a, due-passes a, plan-writes a);
   network-first = λ t k e chain lent. (sym (refuses (checkChainText t chain) lent k (chain-network-refused t chain k e) .0), sym (handed-refused (planGiven t chain lent) chain lent k (plan-refused t chain lent k e) .0));
-  network-refusals = network-meets;
+  network-refusals = λ t k e. let w = accept-numbered t .number k e in (omega (arith, w .0), w .1);
   chain-refusals = λ {t} {g} a chain k e. chain-meets t chain g k (accepts a) e;
 }

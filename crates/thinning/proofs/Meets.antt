@@ -1,4 +1,4 @@
--- Which refusals a network text meets and which a proposed chain; 13 is none of them.
+-- Which refusals a proposed chain meets: 1 and 8 to 12, so that 13 is none of them.
 use mathlib.Core.Path.{_≡_, refl}
 use mathlib.Core.Logic.{_⊎_, inl, inr, ⊎-elim}
 use mathlib.Core.Bool.{Bool, true, false, cond}
@@ -22,8 +22,6 @@ use Rattle.graph.specs.declared.Step.{Step}
 use Rattle.graph.proofs.Numbers.{step-number, ending-number, network-number}
 use Rattle.thinning.specs.Verdicts.{stepIn, droppedIn, leftOver, checkEnding, checkChain}
 use Rattle.thinning.specs.Services.{acceptNetwork, keptIn, checkChainText}
-
--- ── a chain ──
 
 -- a refusal of a proposed chain: of its form, or of a step or an ending
 abbrev pub OfChain : ℕ → Type 0
@@ -77,17 +75,3 @@ chain-meets t chain g k a e = go (checkChain (g .remaining - 2) g chain) refl (r
     go : (w : Verdict) → checkChain (g .remaining - 2) g chain ≡ w → keptIn g w ≡ refusedBy k → OfChain k
     go (refused j) q e = let z : j ≡ k = cc in rw (← z) (chain-refused (g .remaining - 2) g chain j q)
     go (keeps K) q e = let z : _≡_ {A = ℕ} 0 1 = cc in absurd (omega arith)
-
--- ── a network ──
-pub network-meets : (t : List ℕ) (k : ℕ) → acceptNetwork t ≡ refusedBy k → (1 ≤ k) × (k ≤ 7)
-unfolding acceptNetwork loadNetwork andThen
-network-meets t k e = go (readNetwork t) refl e
-  where
-    judged : (g : Network) (j : ℕ) → j ≤ 7 → unlessBy j (answer g) ≡ refusedBy k → (1 ≤ k) × (k ≤ 7)
-    judged g zero l e = unfold unlessBy in let z : _≡_ {A = ℕ} 0 1 = cc in absurd (omega arith)
-    judged g (suc j) l e = unfold unlessBy in let q : k ≡ suc j = cc in (omega arith, omega arith)
-
-    go : (a : Answer Meaning) → readNetwork t ≡ a
-        → andThen (andThen a (λ m. answer (networkOf m))) (λ g. unlessBy (networkRefusal g) (answer g)) ≡ refusedBy k → (1 ≤ k) × (k ≤ 7)
-    go (refusedBy j) q e = unfold andThen in let z : j ≡ k = cc in let w = read-refused t j q in (omega (arith, w .0), omega (arith, w .1))
-    go (answer m) q e = unfold andThen in judged (networkOf m) (networkRefusal (networkOf m)) (network-number (networkOf m)) e

@@ -3,10 +3,11 @@ use flow::every_cut_four;
 use graph::Network;
 use loading::Loaded;
 use loading::load;
+use loading::nothing;
 ghost use mathlib.Core.Path.{_≡_};
 ghost use Rattle.graph.specs.Cut.{networkRefusal};
+ghost use Rattle.loading.specs.Known.{Known};
 ghost use Rattle.loading.specs.Loading.{loadedOf};
-ghost use Rattle.loading.proofs.Reading.{Known};
 ghost use Rattle.thinning.specs.Services.{acceptNetwork, acceptanceOf};
 use super::refusals::CUT;
 use super::refusals::DEGREE;
@@ -31,9 +32,9 @@ fn network_refusal(network: Network) -> u8
     0
 }
 
-// The network of an accepted text, or the text's first refusal.
+// The network of an accepted text, or the text's first refusal and no network.
 pub fn accept(text: &[u8]) -> Loaded
-    ensures { λ r. ⌜ loadedOf r ≡ acceptNetwork (now (text .entry)) ⌝ }
+    ensures { λ r. ⌜ r ≡ loadedOf (acceptNetwork (now (text .entry))) ⌝ }
 {
     let loaded = load(text);
     let refusal = loaded.refusal;
@@ -42,7 +43,11 @@ pub fn accept(text: &[u8]) -> Loaded
     }
     let network = loaded.network;
     let refusal = network_refusal(network);
-    Loaded { refusal, network }
+    if 0 < refusal {
+        let network = nothing();
+        return Loaded { refusal, network };
+    }
+    loaded
 }
 
 // Checks a network text: refusals 1 to 5 as the text meets them, then 6, then 7, or accepted.

@@ -1,5 +1,6 @@
 -- `loading::load` meets its contract.
 use borrow.Author.Needs.{needs}
+use Rattle.loading.specs.Loading.{loadedOf}
 use Rattle.loading.proofs.Reading.{found-stated, found-network, refused-network}
 use Rattle.loading.proofs.load.Statement.{statement}
 use Rattle.loading.proofs.load.Tie as tie
@@ -39,18 +40,20 @@ state-requires c κs =
     found-stated (a .args .text .now) _ _ _ (r .read-network .result) (r .read-network .ensures) _ _ (k .before .vertices .given .1)
 
 returns : tie.Need-returns
+unfolding loadedOf
 returns c =
     let k = c .before in
     let r = k .before .before .before .before .before .before in
     let a = r .before .before .before .before .before in
-    refused-network (a .args .text .now) _ _ _ (r .read-network .result) (r .read-network .ensures) _ (k .before .refusal .given .1) (c .nothing .result)
+    rw (c .nothing .ensures, refused-network (a .args .text .now) _ _ _ (r .read-network .result) (r .read-network .ensures) _ (k .before .refusal .given .1))
 
 returns-2 : tie.Need-returns-2
+unfolding loadedOf
 returns-2 c =
     let k = c .before .before .before in
     let r = k .before .before .before .before .before .before in
     let a = r .before .before .before .before .before in
-    found-network (a .args .text .now) _ _ _ (r .read-network .result) (r .read-network .ensures) _ _ (k .before .vertices .given .1) (c .state .result) (c .state .ensures)
+    rw (c .state .ensures, found-network (a .args .text .now) _ _ _ (r .read-network .result) (r .read-network .ensures) _ _ (k .before .vertices .given .1))
 
 pub load-spec : {M : Type 1} → statement M
 load-spec =

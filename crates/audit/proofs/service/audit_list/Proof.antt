@@ -1,7 +1,7 @@
 -- `audit::service::audit_list` meets its contract.
 use mathlib.Core.Path.{refl}
 use borrow.Author.Needs.{needs}
-use Rattle.loading.proofs.Reading.{loaded-zero, loaded-refused}
+use Rattle.loading.proofs.Reading.{load-numbered, loaded-zero, loaded-refused}
 use Rattle.audit.proofs.ServiceTexts.{list-refused, list-read, listed-markable, network-refused, network-room, network-ends, listing-refused, list-answered}
 use Rattle.audit.proofs.service.audit_list.Statement.{statement}
 use Rattle.audit.proofs.service.audit_list.Tie as tie
@@ -13,7 +13,7 @@ returns : tie.Need-returns
 returns c =
     let q = c .before in
     let a = q .before .before .before .args in
-    network-refused (a .network .now) (a .list .now) _ (loaded-refused _ _ (q .load .ensures) (c .if1 .taken))
+    network-refused (a .network .now) (a .list .now) _ (loaded-refused _ (load-numbered _) (q .load .ensures) (c .if1 .taken))
 
 slice-aggregate-read-list : tie.Need-slice-aggregate-read-list
 slice-aggregate-read-list c = search needs
@@ -39,7 +39,7 @@ mark-requires c κs =
     let q = r .before .before .before .before in
     let a = q .before .before .before .args in
     let g = q .load .result .network in
-    let e = loaded-zero _ g (q .load .ensures) (r .before .before .before .if1 .left) in
+    let e = loaded-zero _ (load-numbered _) (q .load .ensures) (r .before .before .before .if1 .left) in
     let w = list-read (g .vertices) (a .list .now) _ refl (r .read-list .result) _ _ (r .read-list .ensures .0) (r .read-list .ensures .1) (c .before .before .before .count .given .1) in
     listed-markable w (network-room (a .network .now) g e) refl
 
@@ -48,7 +48,7 @@ audit-requires c κs =
     let r = c .before .before .before .before .before .before .before .before in
     let q = r .before .before .before .before in
     let a = q .before .before .before .args in
-    network-ends (a .network .now) _ (loaded-zero _ _ (q .load .ensures) (r .before .before .before .if1 .left))
+    network-ends (a .network .now) _ (loaded-zero _ (load-numbered _) (q .load .ensures) (r .before .before .before .if1 .left))
 
 returns-2 : tie.Need-returns-2
 returns-2 c =
@@ -56,7 +56,7 @@ returns-2 c =
     let q = r .before .before .before .before in
     let a = q .before .before .before .args in
     let g = q .load .result .network in
-    let e = loaded-zero _ g (q .load .ensures) (r .before .before .before .if1 .left) in
+    let e = loaded-zero _ (load-numbered _) (q .load .ensures) (r .before .before .before .if1 .left) in
     listing-refused (a .network .now) (a .list .now) g e _
     (list-refused (g .vertices) (a .list .now) _ refl (r .read-list .result) _ (r .read-list .ensures .0) (c .before .refusal .given .1))
 
@@ -67,7 +67,7 @@ returns-3 c =
     let q = r .before .before .before .before in
     let a = q .before .before .before .args in
     let g = q .load .result .network in
-    let e = loaded-zero _ g (q .load .ensures) (r .before .before .before .if1 .left) in
+    let e = loaded-zero _ (load-numbered _) (q .load .ensures) (r .before .before .before .if1 .left) in
     let w = list-read (g .vertices) (a .list .now) _ refl (r .read-list .result) _ _ (r .read-list .ensures .0) (r .read-list .ensures .1) (m .before .before .before .before .count .given .1) in
     list-answered (a .network .now) (a .list .now) g e _ _ (c .audit .result) (w .is) (m .mark .ensures) (c .audit .ensures)
 

@@ -6,7 +6,7 @@ use lib.ListN.{length, length-set}
 use borrow.Author.Needs.{needs}
 use borrow.Author.Tests.{not-true, not-false}
 use Rattle.frame.specs.Table.{STEP, DROPPED}
-use Rattle.frame.proofs.Runs.{Next, next-read}
+use Rattle.frame.proofs.Runs.{Next, read-as, next-read}
 use Rattle.texts.specs.Limits.{fewestVertices, mostVertices}
 use Rattle.texts.proofs.ChainsTaken.{Taken, out-of-limits, taken-none, taken-broken, taken-next, ending-broken, ending-left, ending-done, refused-held, done-held}
 use Rattle.texts.proofs.ChainsTexts.{step-short, dropped-short}
@@ -35,10 +35,10 @@ at-ending c = c .before .before .before .before
 
 -- the frames that were read there
 step-read : (c : tie.After-f Inv-loop μ-loop) → let k = at-step c in Next STEP (k .loop .at) (entry k .args .text .now) (c .f .given .0 .0) (c .f .given .0 .1 .0)
-step-read c = let k = at-step c in next-read STEP (k .loop .at) (entry k .args .text .now) _ _ (sym (c .f .given .1) ∙ c .before .before .read-line .ensures)
+step-read c = let k = at-step c in next-read STEP (k .loop .at) (entry k .args .text .now) _ _ (read-as (c .f .given .1) (c .before .before .read-line .ensures))
 
 ending-read : (c : tie.After-f2 Inv-loop μ-loop) → let k = at-ending c in Next DROPPED (k .loop .at) (entry k .args .text .now) (c .f2 .given .0 .0) (c .f2 .given .0 .1 .0)
-ending-read c = let k = at-ending c in next-read DROPPED (k .loop .at) (entry k .args .text .now) _ _ (sym (c .f2 .given .1) ∙ c .before .before .read-line2 .ensures)
+ending-read c = let k = at-ending c in next-read DROPPED (k .loop .at) (entry k .args .text .now) _ _ (read-as (c .f2 .given .1) (c .before .before .read-line2 .ensures))
 
 vertices-ok-requires : tie.Need-vertices-ok-requires Inv-loop μ-loop
 vertices-ok-requires c κs = search needs
@@ -86,7 +86,7 @@ returns-2 : tie.Need-returns-2 Inv-loop μ-loop
 returns-2 c =
     let l = c .before .before .before .before .loop in
     refused-held _ _ _ _ _
-    (taken-broken _ _ _ _ _ _ _ (l .inv .5) (c .before .before .before .loop-test .taken) (sym (c .enum-told .given .1) ∙ c .before .before .read-line .ensures))
+    (taken-broken _ _ _ _ _ _ _ (l .inv .5) (c .before .before .before .loop-test .taken) (read-as (c .enum-told .given .1) (c .before .before .read-line .ensures)))
 
 of-requires : tie.Need-of-requires Inv-loop μ-loop
 of-requires c κs = search needs
@@ -160,7 +160,7 @@ returns-3 : tie.Need-returns-3 Inv-loop μ-loop
 returns-3 c =
     let l = c .before .before .before .before .loop in
     refused-held _ _ _ _ _
-    (ending-broken _ _ _ _ _ _ _ (l .inv .5) (omega arith) (sym (c .enum-told2 .given .1) ∙ c .before .before .read-line2 .ensures))
+    (ending-broken _ _ _ _ _ _ _ (l .inv .5) (omega arith) (read-as (c .enum-told2 .given .1) (c .before .before .read-line2 .ensures)))
 
 same-length-7 : tie.Need-same-length-7 Inv-loop μ-loop
 same-length-7 c = search needs

@@ -10,7 +10,7 @@ use Rattle.frame.specs.Answer.{replied}
 use Rattle.frame.specs.Table.{KEPT}
 use Rattle.frame.specs.Frames.{framesToEnd}
 use Rattle.frame.specs.declared.reply.Reply.the-variants.{Done}
-use Rattle.frame.proofs.Runs.{Next, next-read, end-next, end-broken, end-done}
+use Rattle.frame.proofs.Runs.{Next, read-as, next-read, end-next, end-broken, end-done}
 use Rattle.texts.specs.Limits.{mostVertices}
 use Rattle.texts.specs.Lists.{readList, saidBy}
 use Rattle.texts.proofs.ListsTaken.{Taken, InOrder, out-of-limits, taken-none, taken-broken, taken-unlisted, taken-next, taken-all, tested}
@@ -40,7 +40,7 @@ framed c = c .before .before .before
 
 -- the frame that was read
 frame-read : (c : tie.After-f Inv-loop μ-loop) → let k = looped c in Next KEPT (k .loop .at) (entry k .args .text .now) (c .f .given .0 .0) (c .f .given .0 .1 .0)
-frame-read c = let k = looped c in next-read KEPT (k .loop .at) (entry k .args .text .now) _ _ (sym (c .f .given .1) ∙ c .before .before .read-line .ensures)
+frame-read c = let k = looped c in next-read KEPT (k .loop .at) (entry k .args .text .now) _ _ (read-as (c .f .given .1) (c .before .before .read-line .ensures))
 
 -- its edge is in order
 ordered : (c : tie.Else2 Inv-loop μ-loop) → let k = looped (framed (c .before)) in InOrder (entry k .args .vertices) (k .loop .least) (c .before .before .of .result .edge)
@@ -85,7 +85,7 @@ returns-2 c =
     let e =
     taken-broken (s .args .vertices) _ _ _ _ _ (k .loop .inv .3)
     (end-broken KEPT (k .loop .at) (s .args .text .now) (c .before .before .before .loop-test .taken)
-    (sym (c .enum-told .given .1) ∙ c .before .before .read-line .ensures)) in
+    (read-as (c .enum-told .given .1) (c .before .before .read-line .ensures))) in
     (ap replied e, e)
 
 of-requires : tie.Need-of-requires Inv-loop μ-loop

@@ -1,10 +1,9 @@
 -- `texts::network::read_columns` meets its contract.
-use mathlib.Core.Path.{sym, _∙_}
 use Prim.Native.Nat.{_≤_}
 use native.Mathlib.Omega.{arith}
 use borrow.Author.Needs.{needs}
 use Rattle.frame.specs.Table.{HEAD}
-use Rattle.frame.proofs.Runs.{Next, next-read}
+use Rattle.frame.proofs.Runs.{Next, read-as, next-read}
 use Rattle.texts.specs.Networks.{headRefusal}
 use Rattle.texts.proofs.NetworksEdges.{head-passed}
 use Rattle.texts.proofs.NetworksHead.{untouched, head-broken, head-refused, edges-due, edges-refused, edges-read}
@@ -22,7 +21,7 @@ enum-told c = search needs
 
 returns : tie.Need-returns
 returns c =
-    untouched _ (head-broken _ (sym (c .enum-told .given .1) ∙ c .before .before .read-line .ensures))
+    untouched _ (head-broken _ (read-as (c .enum-told .given .1) (c .before .before .read-line .ensures)))
 
 of-requires : tie.Need-of-requires
 of-requires c κs = search needs
@@ -34,7 +33,7 @@ head-refusal-requires c κs = search needs
 line : (c : tie.After-known-told) →
     Next HEAD 0 (c .before .before .before .before .before .before .before .args .text .now) (c .before .f .given .0 .0)
     (c .before .f .given .0 .1 .0)
-line c = next-read _ _ _ _ _ (sym (c .before .f .given .1) ∙ c .before .before .before .read-line .ensures)
+line c = next-read _ _ _ _ _ (read-as (c .before .f .given .1) (c .before .before .before .read-line .ensures))
 
 returns-2 : tie.Need-returns-2
 returns-2 c =

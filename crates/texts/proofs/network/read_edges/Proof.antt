@@ -1,11 +1,10 @@
 -- `texts::network::read_edges` meets its contract.
-use mathlib.Core.Path.{sym, _∙_}
 use Prim.Native.Nat.{_*_, _-_}
 use native.Mathlib.Omega.{arith}
 use mir.Facts.{toZ-ofZ}
 use borrow.Author.Needs.{needs}
 use Rattle.frame.specs.Table.{EDGE}
-use Rattle.frame.proofs.Runs.{Next, next-read}
+use Rattle.frame.proofs.Runs.{Next, read-as, next-read}
 use Rattle.texts.proofs.NetworksEdges.{EdgePassed, edge-passed}
 use Rattle.texts.proofs.NetworksReading.{Reading, reading-none, reading-broken, reading-refused, reading-next, reading-left, reading-end}
 use Rattle.texts.proofs.network.read_edges.Statement.{statement}
@@ -55,12 +54,12 @@ same-length-3 c = search needs
 returns : tie.Need-returns Inv-loop μ-loop
 returns c =
     reading-broken (c .before .before .before .before .loop .inv) (search needs)
-    (sym (c .enum-told .given .1) ∙ c .before .before .read-line .ensures)
+    (read-as (c .enum-told .given .1) (c .before .before .read-line .ensures))
 
 -- the line that was read
 line : (c : tie.After-known-told Inv-loop μ-loop) →
     Next EDGE (at-read c .loop .at) (entry (at-read c) .args .text .now) (c .before .f .given .0 .0) (c .before .f .given .0 .1 .0)
-line c = next-read _ _ _ _ _ (sym (c .before .f .given .1) ∙ c .before .before .before .read-line .ensures)
+line c = next-read _ _ _ _ _ (read-as (c .before .f .given .1) (c .before .before .before .read-line .ensures))
 
 of-requires : tie.Need-of-requires Inv-loop μ-loop
 of-requires c κs = line c .fits

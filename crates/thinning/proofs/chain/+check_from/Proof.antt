@@ -9,7 +9,7 @@ use borrow.Fn.Kinds.{In}
 use borrow.Fn.PlainCycle.{Measures, is, falls, and}
 use Rattle.frame.specs.Table.{STEP}
 use Rattle.frame.specs.Kinds.{stepOf}
-use Rattle.frame.proofs.Runs.{Next, next-read, none-read}
+use Rattle.frame.proofs.Runs.{Next, read-as, next-read, none-read}
 use Rattle.graph.specs.Split.{third, after}
 use Rattle.graph.specs.Chain.{stepRefusal}
 use Rattle.graph.specs.State.{Splittable}
@@ -73,7 +73,7 @@ module _ (t : ℕ) where
   read : (c : lts.After-judge (claims t) (at t) check-from.Post) → Next STEP (entry c .args .at) (entry c .args .chain .now)
       (c .before .before .before .fields .given .0 .0) (c .before .before .before .fields .given .0 .1 .0)
   read c =
-      next-read STEP _ _ _ _ (sym (c .before .before .before .fields .given .1) ∙ c .before .before .before .before .before .read-line .ensures)
+      next-read STEP _ _ _ _ (read-as (c .before .before .before .fields .given .1) (c .before .before .before .before .before .read-line .ensures))
 
   abbrev judged : lts.After-judge (claims t) (at t) check-from.Post → Step
   judged c = record { v = c .before .of .result .v; x = c .before .of .result .x; y = c .before .of .result .y }
@@ -129,7 +129,7 @@ module _ (t : ℕ) where
       let r = c .before .before .before in
       let a = r .before .before .before in
       c .refuse .ensures ∙ sym (chain-at-broken (a .args .network) (a .args .chain .now) (a .args .at) (r .before .if1 .left)
-      (none-read STEP (a .args .at) (a .args .chain .now) (sym (c .before .enum-told .given .1) ∙ r .read-line .ensures)))
+      (none-read STEP (a .args .at) (a .args .chain .now) (read-as (c .before .enum-told .given .1) (r .read-line .ensures))))
 
   of-requires : lts.Need-of-requires (claims t) (at t) check-from.Post
   of-requires c κs = search needs

@@ -7,7 +7,7 @@ use borrow.Author.Needs.{needs}
 use lib.ListN.{drop, length-drop}
 use Rattle.frame.specs.Table.{DROPPED}
 use Rattle.frame.specs.Kinds.{droppedOf}
-use Rattle.frame.proofs.Runs.{Next, next-read, none-read}
+use Rattle.frame.proofs.Runs.{Next, read-as, next-read, none-read}
 use Rattle.graph.specs.Chain.{endRefusal, keeps}
 use Rattle.thinning.specs.Verdicts.{droppedIn, verdictBy}
 use Rattle.thinning.specs.Endings.{endedOf}
@@ -26,7 +26,7 @@ rest c = drop (entry c .args .at) (entry c .args .chain .now)
 -- the frame 04 that was read
 read : (c : tie.After-end-with) → Next DROPPED (entry c .args .at) (entry c .args .chain .now) (c .before .before .before .fields .given .0 .0) (c .before .before .before .fields .given .0 .1 .0)
 read c =
-    next-read DROPPED _ _ _ _ (sym (c .before .before .before .fields .given .1) ∙ c .before .before .before .before .before .read-line .ensures)
+    next-read DROPPED _ _ _ _ (read-as (c .before .before .before .fields .given .1) (c .before .before .before .before .before .read-line .ensures))
 
 -- the edge that it drops
 dropped : (c : tie.After-end-with) → c .before .of .result .edge ≡ droppedIn (rest c)
@@ -70,7 +70,7 @@ returns : tie.Need-returns
 returns c =
     let r = c .before .before .before in
     let a = r .before .before in
-    c .refuse .ensures ∙ sym (ending-broken (a .args .network) _ (none-read DROPPED (a .args .at) (a .args .chain .now) (sym (c .before .enum-told .given .1) ∙ r .read-line .ensures)))
+    c .refuse .ensures ∙ sym (ending-broken (a .args .network) _ (none-read DROPPED (a .args .at) (a .args .chain .now) (read-as (c .before .enum-told .given .1) (r .read-line .ensures))))
 
 of-requires : tie.Need-of-requires
 of-requires c κs = search needs

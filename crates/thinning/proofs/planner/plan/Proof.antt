@@ -4,7 +4,7 @@ use borrow.Author.Needs.{needs}
 use Rattle.frame.specs.Answer.{filled}
 use Rattle.loading.proofs.Reading.{loaded-zero, loaded-refused}
 use Rattle.thinning.specs.Services.{plannedOf}
-use Rattle.thinning.proofs.Accepting.{accepted-running, remaining-few}
+use Rattle.thinning.proofs.Accepting.{accept-numbered, accepted-running, remaining-few}
 use Rattle.thinning.proofs.Handing.{chain-fits, handed-refused, plan-refused, plan-given, plan-ready}
 use Rattle.thinning.proofs.planner.plan.Statement.{statement}
 use Rattle.thinning.proofs.planner.plan.Tie as tie
@@ -16,7 +16,7 @@ returns : tie.Need-returns
 returns c =
     let q = c .before in
     let a = q .before .before .before .before in
-    handed-refused _ (a .args .chain .now) (a .args .kept .now) _ (plan-refused (a .args .network .now) (a .args .chain .now) (a .args .kept .now) _ (loaded-refused _ _ (q .accept .ensures) (c .if1 .taken)))
+    handed-refused _ (a .args .chain .now) (a .args .kept .now) _ (plan-refused (a .args .network .now) (a .args .chain .now) (a .args .kept .now) _ (loaded-refused _ (accept-numbered _) (q .accept .ensures) (c .if1 .taken)))
 
 slice-aggregate-plan-into : tie.Need-slice-aggregate-plan-into
 slice-aggregate-plan-into c = search needs
@@ -24,8 +24,8 @@ slice-aggregate-plan-into c = search needs
 plan-into-requires : tie.Need-plan-into-requires
 plan-into-requires c κs =
     let q = c .before .before .before in
-    let run = accepted-running (q .before .before .before .before .args .network .now) _ (loaded-zero _ _ (q .accept .ensures) (c .before .before .if1 .left)) in
-    (run, chain-fits _ (remaining-few (q .before .before .before .before .args .network .now) _ (loaded-zero _ _ (q .accept .ensures) (c .before .before .if1 .left))))
+    let run = accepted-running (q .before .before .before .before .args .network .now) _ (loaded-zero _ (accept-numbered _) (q .accept .ensures) (c .before .before .if1 .left)) in
+    (run, chain-fits _ (remaining-few (q .before .before .before .before .args .network .now) _ (loaded-zero _ (accept-numbered _) (q .accept .ensures) (c .before .before .if1 .left))))
 
 slice-aggregate-hand-over : tie.Need-slice-aggregate-hand-over
 slice-aggregate-hand-over c = search needs
@@ -35,7 +35,7 @@ hand-over-requires c κs =
     let p = c .before .before .before .before in
     let q = p .before .before .before .before in
     let a = q .before .before .before .before in
-    plan-ready (a .args .network .now) (a .args .chain .now) (a .args .kept .now) _ (loaded-zero _ _ (q .accept .ensures) (p .before .before .before .if1 .left))
+    plan-ready (a .args .network .now) (a .args .chain .now) (a .args .kept .now) _ (loaded-zero _ (accept-numbered _) (q .accept .ensures) (p .before .before .before .if1 .left))
     _ (p .plan-into .ensures .0) _ _ refl (p .plan-into .ensures .1)
 
 same-length : tie.Need-same-length
@@ -50,7 +50,7 @@ returns-2 c =
     let p = h .before .before .before .before .before in
     let q = p .before .before .before .before in
     let a = q .before .before .before .before in
-    let e = plan-given (a .args .network .now) (a .args .chain .now) (a .args .kept .now) _ (loaded-zero _ _ (q .accept .ensures) (p .before .before .before .if1 .left)) _ (p .plan-into .ensures .0) in (
+    let e = plan-given (a .args .network .now) (a .args .chain .now) (a .args .kept .now) _ (loaded-zero _ (accept-numbered _) (q .accept .ensures) (p .before .before .before .if1 .left)) _ (p .plan-into .ensures .0) in (
       h .hand-over .ensures .0 ∙ ap plannedOf e,
       (
         h .hand-over .ensures .1 .0 ∙ ap (λ w. filled (λ t. t .chain) w (a .args .chain .now)) e,
