@@ -7,19 +7,14 @@ use Prim.Native.Nat.{ℕ, zero, suc, _-_, _≤_}
 use native.Mathlib.Omega.{arith}
 use lib.Dec.{leb}
 use lib.ListN.{length, drop}
-use Rattle.frame.specs.Answer.{Answer, refused as refusedBy, answer, andThen}
+use Rattle.frame.specs.Answer.{refused as refusedBy, answer, andThen}
 use Rattle.frame.specs.Table.{STEP, DROPPED, lineLength}
 use Rattle.frame.specs.Line.{isLine}
-use Rattle.texts.specs.Limits.{unless as unlessBy}
-use Rattle.texts.specs.Networks.{Meaning, readNetwork}
-use Rattle.texts.proofs.NetworksRefusals.{read-refused}
-use Rattle.loading.specs.Loading.{networkOf, loadNetwork}
-use Rattle.graph.specs.Cut.{networkRefusal}
 use Rattle.graph.specs.Split.{after}
 use Rattle.graph.specs.Chain.{stepRefusal, endRefusal, endKept, Verdict, refused, keeps, liftVerdict, unless}
 use Rattle.graph.specs.declared.Network.{Network}
 use Rattle.graph.specs.declared.Step.{Step}
-use Rattle.graph.proofs.Numbers.{step-number, ending-number, network-number}
+use Rattle.graph.proofs.Numbers.{step-number, ending-number}
 use Rattle.thinning.specs.Verdicts.{stepIn, droppedIn, leftOver, checkEnding, checkChain}
 use Rattle.thinning.specs.Services.{acceptNetwork, keptIn, checkChainText}
 
