@@ -17,9 +17,9 @@ use Rattle.texts.proofs.NetworksRoundTrip.{read-written, written-read, any-rese
 use Rattle.texts.proofs.NetworksMeaning.{read-valid}
 use Rattle.loading.specs.Loading.{stateOf, networkOf}
 use Rattle.loading.proofs.Meanings.{loaded-fresh}
-use Rattle.texts.specs.Kept.{keptEdges, pick as keptPick}
+use Rattle.texts.specs.Kept.{keptEdges, keptText, pick as keptPick}
 use Rattle.graph.specs.Fold.{among, pick}
-use Rattle.graph.specs.Network.{endsAt, degree, kept}
+use Rattle.graph.specs.Network.{endsAt, degree, kept, keptCost, allButReserved}
 use Rattle.graph.specs.Cut.{crosses, crossingsOf, EveryCutOf, crossedBy, everyCutOf, fourEach, networkRefusal}
 use Rattle.graph.specs.Chain.{Verdict, refused, keeps}
 use Rattle.graph.specs.Plan.{planSteps, planDrop, planKept}
@@ -266,12 +266,20 @@ untouched t chain lent k h = go (checkChainText t chain) refl
       | no l ↦ let e = fits (checkChainText t chain) lent text q (omega arith) .0 in let z : _≡_ {A = ℕ} 0 1 = cc in absurd (omega arith)
     ]
 
+-- the kept text of marked edges, in full
+text-of : (g : Network) (K : List Bool) → keptOf g K ≡ keptText (keptEdges (g .edges) K) (keptCost g K) (allButReserved g)
+unfolding keptOf
+text-of g K = refl
+
 pub claim : Claim
 claim = record {
   accepted = λ t g. (is-accepted t g, accepts);
   any-reserved = λ {t} {g} a. accepted-any t g (accepts a);
   passes = λ a chain lent. (passes-ruled-text a chain lent, ruled-text-passes a chain lent);
-  gives = λ a chain text. (answers-ruled a chain text, λ r. ruled-answers a (r .1) ∙ ap answer (sym (r .2)));
+  gives = λ {g = g} a chain text. (
+    λ h. let r = answers-ruled a chain text h in (r .0, r .1, r .2 ∙ text-of g (r .0)),
+    λ r. ruled-answers a (r .1) ∙ ap answer (text-of g (r .0) ∙ sym (r .2)),
+  );
   one = λ a r s. one-set a r s;
   owed = λ a r. ruled-owed a r;
   short = λ {t} a chain lent. (short-ruled a chain lent, λ r. sym (short (checkChainText t chain) lent _ (ruled-answers a (r .1)) (r .2) .0));

@@ -13,7 +13,7 @@ use Rattle.frame.specs.declared.reply.Reply.{Reply}
 use Rattle.frame.specs.declared.reply.Reply.the-variants.{Refused, Done}
 use Rattle.texts.specs.Networks.{Meaning, writeNetwork}
 use Rattle.texts.specs.Chains.{chainText}
-use Rattle.texts.specs.Kept.{keptEdges}
+use Rattle.texts.specs.Kept.{keptEdges, keptText}
 use Rattle.loading.specs.Loading.{networkOf}
 use Rattle.graph.specs.Fold.{among}
 use Rattle.graph.specs.Network.{degree, kept, keptCost, allButReserved}
@@ -99,12 +99,13 @@ pub record Claim : Type 0 where
   pub any-reserved : {t : List ℕ} {g : Network} → Accepted t g → (r : ℕ) → r < g .edges → (s : List ℕ) × Accepted s (reserving r g)
   -- 'A chain passes when its check over an accepted network succeeds or gives 13.' 'Any bytes may be proposed as a chain. They keep the
   -- rules over an accepted network exactly when they are a chain text with nothing left over, each frame 03 is a step by rule on the
-  -- network that the frames before it leave, and the frame 04 names a dearest of the last three that aren't reserved.'
+  -- network that the frames before it leave .., with v an end of the reserved cable there, and the frame 04 names a dearest of the last
+  -- three that aren't reserved.'
   pub passes : {t : List ℕ} {g : Network} → Accepted t g → (chain lent : List ℕ) → Passes (chainReply t chain lent) ↔ ((K : List Bool) × Ruled g chain K)
   -- 'The kept cables are what going back from the ending gives, and the kept text lists exactly these. Its 06 has the sum of their costs
-  -- and the sum over all cables but the reserved one, both at the network's own costs'
+  -- and the sum over all cables but the reserved one, both at the network's own costs and not at working ones'
   pub gives : {t : List ℕ} {g : Network} → Accepted t g → (chain text : List ℕ)
-      → (checkChainText t chain ≡ answer text) ↔ ((K : List Bool) × Ruled g chain K × (text ≡ keptOf g K))
+      → (checkChainText t chain ≡ answer text) ↔ ((K : List Bool) × Ruled g chain K × (text ≡ keptText (keptEdges (g .edges) K) (keptCost g K) (allButReserved g)))
   -- and going back gives one set alone
   pub one : {t : List ℕ} {g : Network} → Accepted t g → {chain : List ℕ} {K L : List Bool} → Ruled g chain K → Ruled g chain L → K ≡ L
   -- 'the ratio is between these two. Divisions are those of all n cabinets': the kept edges leave out the reserved one, none stands twice,
@@ -125,13 +126,13 @@ pub record Claim : Type 0 where
   -- 'The first met counts': what the network meets, chain check and planner give
   pub network-first : (t : List ℕ) (k : ℕ) → acceptNetwork t ≡ refused k
       → (chain lent : List ℕ) → (chainReply t chain lent ≡ Refused k) × (planReply t chain lent ≡ plan.Refused k)
-  -- 'No refusal is given but under its condition': a network text meets 1 to 7 alone, and a chain over an accepted network 1 and 8 to 12
-  -- alone; 13 comes from a lent buffer and from nothing else
+  -- 'No refusal is given but under its condition': a network text meets 1 to 7 alone
   pub network-refusals : (t : List ℕ) (k : ℕ) → acceptNetwork t ≡ refused k → (1 ≤ k) × (k ≤ 7)
+  -- and a chain over an accepted network 1 and 8 to 12 alone, so that 13 comes from a lent buffer and from nothing else
   pub chain-refusals : {t : List ℕ} {g : Network} → Accepted t g → (chain : List ℕ) (k : ℕ) → checkChainText t chain ≡ refused k
       → (k ≡ 1) ⊎ ((8 ≤ k) × (k ≤ 12))
 
--- ── wrong programs that the claim shuts out, each by a must-fail edit ──
+-- ── wrong programs that the claim, or a promise by its words, shuts out: each has a must-fail edit ──
 --
 -- answers every passing chain with the planner's kept text    `gives`               planners_text_for_every_chain
 -- keeps the planner's set for every chain                     `gives`               planners_set_for_every_chain
@@ -139,8 +140,8 @@ pub record Claim : Type 0 where
 -- judges the first step and waves the later ones through      `passes`              later_steps_waved_through
 -- keeps all edges but the reserved one                        `owed`, its ratio     all_but_the_reserved_kept, in crate graph
 -- counts the reserved edge in the ratio                       `owed`, its ratio     reserved_in_ratio, in crate graph
--- guesses the planner's later steps                           `planned`             later_steps_guessed, here and in crate graph
--- files one chain for all networks                            `planned`             one_chain_for_all_networks, here and in crate graph
+-- guesses the planner's later steps                           `planned`             later_steps_guessed, in crate graph
+-- files one chain for all networks                            `planned`             one_chain_for_all_networks, in crate graph
 -- turns down every network                                    `accepted`            every_network_refused
 -- calls a buffer short before measuring the text              `planned`             short_before_measuring
 -- writes nothing and reports success                          `planned`             nothing_written
