@@ -122,9 +122,9 @@ module _ {g : Network} {t : Step} (w : Stepped g t) where
   ]
 
   -- the check goes back as the rule says
-  lift-keeps : (later : List Bool) → g .edges ≤ length later → StepKeeps (t .x) (t .y) (third g t) later (lift (t .x) (t .y) (third g t) later)
+  lift-ruled : (later : List Bool) → g .edges ≤ length later → StepKeeps (t .x) (t .y) (third g t) later (lift (t .x) (t .y) (third g t) later)
   unfolding lift
-  lift-keeps later room =
+  lift-ruled later room =
       let x-place : t .x < length later = omega (arith, w .at .four .x<) in
       let y-place : t .y < length later = omega (arith, w .at .four .y<) in
       let ne : t .y ≢ t .x = λ e. w .at .four .xy (sym e) in
@@ -197,7 +197,7 @@ check-back {g} {ts = t ∷ ts} {d = d} {K = K} sound (step more r rest) h =
     let w = stepped sound (omega arith) t r in
     let next = sound-step sound t w in
     let b = check-back next rest (c .later-keeps) in
-    rw (← c .marks-are) (goes b (is-third w) (lift-keeps w (c .later) (room (c .later) (back-good next rest b .sized))))
+    rw (← c .marks-are) (goes b (is-third w) (lift-ruled w (c .later) (room (c .later) (back-good next rest b .sized))))
   where
     room : (K : List Bool) → length K ≡ length (after g t .low) → g .edges ≤ length K
     room K e = unfold after split in omega (arith, simp length-set at e, sound .formed .low-room)
