@@ -1,6 +1,6 @@
 -- Going back gives exactly one set of marks for a chain by the rules: the set that the check of the chain keeps. It is good.
 use mathlib.Core.Path.{_≡_, refl, sym, _∙_, ap}
-use mathlib.Core.Logic.{_≢_, _⊎_, inl, inr}
+use mathlib.Core.Logic.{_≢_}
 use mathlib.Core.Bool.{Bool, true, false}
 use mathlib.Core.List.{List, [], _∷_}
 use Prim.Native.Nat.{ℕ, _≤_, _<_}
@@ -10,7 +10,7 @@ use lib.Dec.{eqb}
 use lib.ListN.{length, set, length-set, List·getD-eq-default}
 use lib.Seq.{ext-getD, getD-set-same, getD-set-other, lt-length-set}
 use Rattle.graph.specs.Fold.{only, without, among}
-use Rattle.graph.specs.Network.{lowEnd, highEnd, kept}
+use Rattle.graph.specs.Network.{kept}
 use Rattle.graph.specs.Split.{split, third, after}
 use Rattle.graph.specs.Chain.{lastEdges, marks, endKept, lift, keeps, check, LastEdge, StepByRule, ByRules, ending, step}
 use Rattle.graph.specs.Back.{EndKeeps, Third, StepKeeps, Back, ending as ends, step as goes}
@@ -20,10 +20,9 @@ use Rattle.graph.specs.declared.Network.{Network}
 use Rattle.graph.specs.declared.Step.{Step}
 use Rattle.graph.proofs.Bools.{never, eqb-self, eqb-no}
 use Rattle.graph.proofs.Sums.{tabulate-length, tabulate-at}
-use Rattle.graph.proofs.Stars.{Runs, forward, backward}
-use Rattle.graph.proofs.Partners.{touch-ends, touches-at, among-without}
+use Rattle.graph.proofs.Partners.{touch-ends, touches-at, starts-at, among-without}
 use Rattle.graph.proofs.Lifting.{lift-cuts, ratio-step}
-use Rattle.graph.proofs.Endings.{last-of, of-last, end-good}
+use Rattle.graph.proofs.Endings.{last-of, of-last, not-last, end-good}
 use Rattle.graph.proofs.Rules.{Stepped, stepped, sound-step}
 use Rattle.graph.proofs.Checking.{check-ended, check-began, passes-ruled, ruled-passes}
 
@@ -92,7 +91,7 @@ end-one {g} {d} {K} {L} k l = ext-getD false K L (k .sized ∙ sym (l .sized)) (
   where
     at : (e : ℕ) → e ≢ d → (t : Bool) → among e (lastEdges g) ≡ t → kept K e ≡ kept L e
     at e q true h = let p = last-of g e h in k .others e p q ∙ sym (l .others e p q)
-    at e q false h = let out : LastEdge g e → ⊥ = λ p. never (sym h ∙ of-last g e p) in k .rest e out q ∙ sym (l .rest e out q)
+    at e q false h = k .rest e (not-last g e h) q ∙ sym (l .rest e (not-last g e h) q)
 
 -- ── a step ──
 module _ {g : Network} {t : Step} (w : Stepped g t) where
@@ -101,14 +100,10 @@ module _ {g : Network} {t : Step} (w : Stepped g t) where
   is-third =
       let f = w .at .four in
       record {
-        partner = record { number = f .z<; at-v = ends-at (w .at .to-c); not-reserved = λ q. f .rz (sym q) };
+        partner = record { number = f .z<; at-v = starts-at (w .at .to-c); not-reserved = λ q. f .rz (sym q) };
         not-x = λ q. f .xz (sym q);
         not-y = λ q. f .yz (sym q);
       }
-    where
-      ends-at : {e a : ℕ} → Runs g e (t .v) a → (lowEnd g e ≡ t .v) ⊎ (highEnd g e ≡ t .v)
-      ends-at (forward a b) = inl a
-      ends-at (backward a b) = inr b
 
   -- and there is no other
   one-third : {z : ℕ} → Third g t z → z ≡ third g t
@@ -175,7 +170,7 @@ back-below {g} {d = d} {K = K} sound (ending two r) (ends k) e h = elim (ℕ-dis
   where
     go : (t : Bool) → among e (lastEdges g) ≡ t → e ≢ d → e < g .edges
     go true m q = last-of g e m .number
-    go false m q = never (sym (k .rest e (λ p. never (sym m ∙ of-last g e p)) q) ∙ h)
+    go false m q = never (sym (k .rest e (not-last g e m) q) ∙ h)
 back-below {g} {ts = t ∷ ts} {K = K} sound (step more r rest) (goes b p k) e h =
     let w = stepped sound (omega arith) t r in
     elim (ℕ-discrete e (t .x)) [

@@ -50,6 +50,9 @@ module _ (g : Network) where
   of-last e p =
       among-pick (g .edges) 0 (λ e. here g (lowEnd g e) && not (eqb e (g .reserved))) e (omega arith) (omega (arith, p .number)) (rw (p .not-retired, eqb-no (p .not-reserved)))
 
+  pub not-last : (e : ℕ) → among e (lastEdges g) ≡ false → LastEdge g e → ⊥
+  not-last e h p = never (sym h ∙ of-last e p)
+
 module _ {g : Network} (sound : Sound g) (two : g .remaining ≡ 2) where
   -- the two vertices: the low end of the reserved edge, and the other one
   abbrev pub v : ℕ

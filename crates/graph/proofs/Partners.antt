@@ -100,12 +100,13 @@ pub touches-at : (g : Network) (v e : ℕ) → (lowEnd g e ≡ v) ⊎ (highEnd g
 unfolding touches
 touches-at g v e = ⊎-elim (λ q. rw (q, eqb-self)) (λ q. rw (q, eqb-self) (or-true (eqb (lowEnd g e) v)))
 
+-- an edge that runs from v ends there
+pub starts-at : {g : Network} {e v f : ℕ} → Runs g e v f → (lowEnd g e ≡ v) ⊎ (highEnd g e ≡ v)
+starts-at (forward a b) = inl a
+starts-at (backward a b) = inr b
+
 pub touches-ends : (g : Network) (v e : ℕ) → touches g v e ≡ true → (lowEnd g e ≡ v) ⊎ (highEnd g e ≡ v)
-touches-ends g v e h = go (touches-runs g v e h)
-  where
-    go : {f : ℕ} → Runs g e v f → (lowEnd g e ≡ v) ⊎ (highEnd g e ≡ v)
-    go (forward a b) = inl a
-    go (backward a b) = inr b
+touches-ends g v e h = starts-at (touches-runs g v e h)
 
 one-loop : (g : Network) (v e : ℕ) → lowEnd g e ≡ v → highEnd g e ≡ v → loop g v e ≡ 1
 unfolding loop

@@ -60,26 +60,15 @@ rising : (n : ℕ) (K : List Bool) → Rising (keptEdges n K)
 unfolding keptEdges
 rising n K = rw (same-pick n 0 (kept K)) (picked-rise n 0 (kept K))
 
-listed-below : (n : ℕ) (K : List Bool) (e : ℕ) → e < n → among e (keptEdges n K) ≡ kept K e
+-- marks of edges below n are those of the list
+listed : (n : ℕ) (K : List Bool) → ((e : ℕ) → kept K e ≡ true → e < n) → (e : ℕ) → among e (keptEdges n K) ≡ kept K e
 unfolding keptEdges
-listed-below n K e l = rw (same-pick n 0 (kept K)) (agree (among e (pick n 0 (kept K))) (kept K e) (λ h. pick-among n 0 (kept K) e h .2) (λ h. among-pick n 0 (kept K) e (omega arith) (omega arith) h))
+listed n K below e = rw (same-pick n 0 (kept K)) (agree (among e (pick n 0 (kept K))) (kept K e) (λ h. pick-among n 0 (kept K) e h .2) (λ h. among-pick n 0 (kept K) e (omega arith) (omega (arith, below e h)) h))
   where
     agree : (a b : Bool) → (a ≡ true → b ≡ true) → (b ≡ true → a ≡ true) → a ≡ b
     agree true b f g = sym (f refl)
     agree false true f g = g refl
     agree false false f g = refl
-
-listed : (n : ℕ) (K : List Bool) → ((e : ℕ) → kept K e ≡ true → e < n) → (e : ℕ) → among e (keptEdges n K) ≡ kept K e
-unfolding keptEdges
-listed n K below e = elim (decLt e n) [
-  | yes l ↦ listed-below n K e l
-  | no l ↦ rw (same-pick n 0 (kept K)) (neither (among e (pick n 0 (kept K))) (kept K e) (λ h. l (omega (arith, pick-among n 0 (kept K) e h .1))) (λ h. l (below e h)))
-]
-  where
-    neither : (a b : Bool) → (a ≡ true → ⊥) → (b ≡ true → ⊥) → a ≡ b
-    neither true b f g = absurd (f refl)
-    neither false true f g = absurd (g refl)
-    neither false false f g = refl
 
 -- ── accepted networks ──
 
