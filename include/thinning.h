@@ -1,4 +1,4 @@
-/* Thinning: the services of libhost.a.
+/* Thinning: the services of libthinning.a.
  *
  * Each function answers 0, or the number of the first refusal. After a refusal every buffer and every out-number is
  * untouched. After an answer a buffer holds what is due to it at its start, and its old elements behind that.
@@ -10,8 +10,8 @@
  * as are said, an out-number's to one; what a function writes overlaps nothing else that it is given; during the call
  * nobody else writes what it is given, or reads what it writes.
  *
- * thinning_plan and thinning_check_chain go as deep as there are vertices: at 256 vertices they were measured to take
- * 1.85 MB of stack.
+ * thinning_plan and thinning_check_chain go as deep as there are vertices: at 256 vertices they take 1.57 MB and 1.45 MB
+ * of stack, measured by the command ./stack.
  *
  * The refusals:
  *    1  the form: a broken line, a wrong kind or length, a missing frame, bytes left over; columns of a wrong length
@@ -64,7 +64,8 @@ uint32_t thinning_plan(const uint8_t *network, size_t network_len,
                        size_t *chain_written, size_t *kept_written);
 
 /* Checks any bytes proposed as a chain over a network text: writes the kept text, and its length in bytes.
- * Refusals: 1 to 7 of the network, as in its check; then 1 and 8 to 12 of the chain, whichever comes first in it; then 13.
+ * Refusals: 1 to 7 of the network, as in its check; then 1 and 8 to 12 of the chain, whichever comes first in it;
+ * then 13.
  * Room for every chain: kept 3612 bytes. */
 uint32_t thinning_check_chain(const uint8_t *network, size_t network_len,
                               const uint8_t *chain, size_t chain_len,
@@ -79,7 +80,8 @@ uint32_t thinning_audit(const uint8_t *network, size_t network_len, const uint8_
 
 /* Reads a network text: writes the lower end, the higher end and the cost of each edge, by its number, and the number
  * of vertices and the reserved edge. Each column gets twice as many elements as there are vertices.
- * Refusals: 1 to 5, whichever comes first in the text, then 13 if a column is too short. Degrees and cuts are not looked at.
+ * Refusals: 1 to 5, whichever comes first in the text, then 13 if a column is too short. Degrees and cuts are not
+ * looked at.
  * Room for every network: 512 elements in each column. */
 uint32_t thinning_read_network(const uint8_t *text, size_t text_len,
                                uint16_t *low, size_t low_len,

@@ -1,5 +1,5 @@
-//! Tells the linker where libhost.a is: in target/staticlib beside this folder, or in the folder that `THINNING_LIB`
-//! names.
+//! Tells the linker where libthinning.a is: in target/staticlib beside this folder, or in the folder that
+//! `THINNING_LIB` names.
 
 use std::env;
 use std::path::{Path, PathBuf};
@@ -16,8 +16,8 @@ fn main() {
     // A library that was made anew is linked anew.
     println!(
         "cargo::rerun-if-changed={}",
-        folder.join("libhost.a").display()
+        folder.join("libthinning.a").display()
     );
     println!("cargo::rustc-link-search=native={}", folder.display());
-    println!("cargo::rustc-link-lib=static=host");
+    println!("cargo::rustc-link-lib=static=thinning");
 }

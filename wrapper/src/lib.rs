@@ -1,8 +1,8 @@
-//! Thinning of four-port networks: safe functions over the verified services of libhost.a.
+//! Thinning of four-port networks: safe functions over the verified services of libthinning.a.
 //!
 //! Here every answer comes in vectors of its own. [`raw`] has the same services over slices that the caller lends.
 //!
-//! [`plan`] and [`check_chain`] go as deep as there are vertices: a thread that calls them needs 2 MB of stack for
+//! [`plan`] and [`check_chain`] go as deep as there are vertices: a thread that calls them needs 1.6 MB of stack for
 //! 256 vertices, which the threads of the standard library have.
 //!
 //! ```

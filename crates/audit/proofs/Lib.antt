@@ -1,8 +1,3 @@
-pub mod Tallies
-pub mod Reaching
-pub mod Bits
-pub mod Sets
-pub mod Searching
+pub mod Counting
 pub mod Answering
-pub mod ServiceMarks
-pub mod ServiceTexts
+pub mod Examples

@@ -1,5 +1,4 @@
-pub mod Joined
-pub mod Words
-pub mod Search
+pub mod Critical
 pub mod Answers
 pub mod Service
+pub mod Audits

@@ -18,7 +18,8 @@ module _ {A : Type 0} {n : ℕ} {s : List A} {d : A} where
   pub copied-none : Copied n s d (replicate n d) 0
   copied-none = record { within = omega arith; so-far = refl }
 
-  pub copied-more : {array : List A} {k : ℕ} → length s ≤ n → k < length s → Copied n s d array k → Copied n s d (set array k (getD s k d)) (k + 1)
+  pub copied-more : {array : List A} {k : ℕ} → length s ≤ n → k < length s → Copied n s d array k
+      → Copied n s d (set array k (getD s k d)) (k + 1)
   copied-more {array} {k} room more h =
       record {
         within = omega arith;

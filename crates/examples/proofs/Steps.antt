@@ -1,11 +1,12 @@
 -- The steps of the examples: what each split needs.
 use Prim.Native.Nat.{ℕ, _^_}
 use lib.Dec.{T, leb, ltb, lit<, lit≤}
-use Rattle.graph.specs.Fold.{fold}
+use Rattle.base.specs.Fold.{fold}
 use Rattle.graph.specs.Network.{far}
 use Rattle.graph.specs.Split.{split}
 use Rattle.graph.specs.Sound.{weight, Light}
-use Rattle.graph.specs.State.{edgeLimit, Splittable}
+use Rattle.base.specs.Limits.{edgeLimit}
+use Rattle.graph.specs.State.{Splittable}
 use Rattle.graph.specs.declared.Network.{Network}
 use Rattle.examples.specs.District.{network, triangle, square}
 

@@ -4,7 +4,7 @@ use mathlib.Core.List.{List, [], _∷_, _++_}
 use Prim.Native.Nat.{ℕ}
 use lib.IntN.{ℤ, pos}
 use lib.ListN.{length, drop, replicate}
-use Rattle.graph.specs.State.{vertexLimit, edgeLimit}
+use Rattle.base.specs.Limits.{vertexLimit, edgeLimit}
 use Rattle.graph.specs.declared.Network.{Network}
 
 -- an array of n elements that starts with xs and has d from there on

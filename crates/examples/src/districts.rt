@@ -4,11 +4,11 @@ ghost use mathlib.Core.Path.{_≡_};
 ghost use Prim.Native.Nat.{_≤_};
 ghost use lib.IntN.{pos};
 ghost use lib.ListN.{length, replicate};
-ghost use Rattle.graph.specs.State.{vertexLimit, edgeLimit};
+ghost use Rattle.base.specs.Limits.{vertexLimit, edgeLimit};
 ghost use Rattle.examples.specs.District.{filled, network, triangle, square, uneven};
-use graph::EDGE_LIMIT;
+use base::EDGE_LIMIT;
+use base::VERTEX_LIMIT;
 use graph::Network;
-use graph::VERTEX_LIMIT;
 
 // Marks of the first n cabinets.
 fn first(n: usize) -> [bool; VERTEX_LIMIT]

@@ -3,8 +3,8 @@ mod districts;
 mod print;
 
 ghost use Prim.Native.Nat.{_<_};
-ghost use Rattle.graph.specs.State.{edgeLimit};
-use graph::EDGE_LIMIT;
+ghost use Rattle.base.specs.Limits.{edgeLimit};
+use base::EDGE_LIMIT;
 use graph::Kept;
 
 // The set of two kept cables, which an ending leaves.

@@ -1,4 +1,5 @@
--- Every cut of a network is crossed by at least four edges exactly if its first present vertex is four apart from every other one.
+-- Every cut of a network is crossed by at least four edges exactly if
+-- its first present vertex is four apart from every other one.
 use mathlib.Core.Path.{_≡_, refl, sym, _∙_, ap}
 use mathlib.Core.Bool.{Bool, true, false, not}
 use mathlib.Core.List.{List}
@@ -11,7 +12,7 @@ use Rattle.graph.specs.Network.{here}
 use Rattle.graph.specs.Cut.{Side, crossings, EveryCut, everyCut}
 use Rattle.graph.specs.Sound.{Formed}
 use Rattle.graph.specs.declared.Network.{Network}
-use Rattle.graph.proofs.Bools.{never}
+use Rattle.base.proofs.Bools.{never}
 use Rattle.graph.proofs.EveryCut.{every-cut-sound, every-cut-complete}
 use Rattle.graph.proofs.Lemma8.{crossings-not}
 use Rattle.flow.specs.Apart.{FourApart}
@@ -48,7 +49,9 @@ module _ {g : Network} (f : Formed g) {anchor : ℕ} (a : FirstOf (g .present) (
         ]
   ]
 
-  pub tested-all : {ends : List ℕ} → Laid g ends → {n : ℕ} → g .vertices ≤ n → Tested ends (g .present) anchor n → true ≡ everyCut 4 g
+  -- every cut, or its other part, has the anchor in and a later vertex out, and was tested between these two
+  pub tested-all : {ends : List ℕ} → Laid g ends → {n : ℕ} → g .vertices ≤ n → Tested ends (g .present) anchor n
+      → true ≡ everyCut 4 g
   tested-all laid {n} le t = sym (every-cut-complete 4 g (λ e. true) cuts)
     where
       apart : (S : Side) (v : ℕ) → here g v ≡ true → S anchor ≡ true → S v ≡ false → 4 ≤ crossings g S
@@ -61,9 +64,15 @@ module _ {g : Network} (f : Formed g) {anchor : ℕ} (a : FirstOf (g .present) (
         where
           go : (part : Bool) → S anchor ≡ part → 4 ≤ crossings g S
           go true e = apart S (d .outer) (d .outer-here) e (d .outer-out)
-          go false e = omega (arith, crossings-not g S, apart (λ v. not (S v)) (d .inner) (d .inner-here) (ap not e) (ap not (d .inner-in)))
+          go false e = omega (
+            arith,
+            crossings-not g S,
+            apart (λ v. not (S v)) (d .inner) (d .inner-here) (ap not e) (ap not (d .inner-in)),
+          )
 
-  pub tested-fails : {v : ℕ} → anchor < v → v < g .vertices → here g v ≡ true → (FourApart g (twice anchor) (twice v) → ⊥)
+  -- and a side that has the anchor in and a present vertex out makes a cut
+  pub tested-fails : {v : ℕ} → anchor < v → v < g .vertices → here g v ≡ true
+      → (FourApart g (twice anchor) (twice v) → ⊥)
       → false ≡ everyCut 4 g
   tested-fails {v} l k h fails = go (everyCut 4 g) refl
     where

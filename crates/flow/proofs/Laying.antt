@@ -8,13 +8,13 @@ use native.Mathlib.Omega.{arith}
 use borrow.Author.Count.{below-more}
 use lib.ListN.{length, set, replicate, length-set, length-replicate, getD-replicate}
 use lib.Seq.{getD-set-same, getD-set-other}
-use Rattle.graph.specs.Fold.{sum}
+use Rattle.base.specs.Fold.{sum}
 use Rattle.graph.specs.Network.{lowEnd, highEnd}
 use Rattle.graph.specs.Cut.{Side, differ, crosses, crossingsOf, crossings}
-use Rattle.graph.specs.State.{edgeLimit}
+use Rattle.base.specs.Limits.{edgeLimit}
 use Rattle.graph.specs.declared.Network.{Network}
 use Rattle.graph.proofs.Stars.{differ-same}
-use Rattle.graph.proofs.Sums.{sum-ext, sum-add, sum-zeros, sum-join}
+use Rattle.base.proofs.Sums.{sum-ext, sum-add, sum-zeros, sum-join}
 use Rattle.flow.specs.Arcs.{arcLimit, at, reverse, LaidTo, Laid, leaving, carried, capacity, Balanced}
 
 -- the edges are laid one by one
@@ -24,7 +24,8 @@ laid-none g = record {
   room = omega arith;
   low = λ e l. absurd (omega arith);
   high = λ e l. absurd (omega arith);
-  spare = λ e _ l. getD-replicate arcLimit e 0 0 (omega arith) ∙ sym (getD-replicate arcLimit (e + edgeLimit) 0 0 (omega arith));
+  spare = λ e _ l. getD-replicate arcLimit e 0 0 (omega arith)
+      ∙ sym (getD-replicate arcLimit (e + edgeLimit) 0 0 (omega arith));
 }
 
 module _ {g : Network} {edge : ℕ} {ends : List ℕ} (l : LaidTo g edge ends) (h : edge < edgeLimit) where
@@ -40,7 +41,8 @@ module _ {g : Network} {edge : ℕ} {ends : List ℕ} (l : LaidTo g edge ends) (
 
   at-high : at longer (edge + edgeLimit) ≡ highEnd g edge
   unfolding longer
-  at-high = getD-set-same (set ends edge (lowEnd g edge)) (edge + edgeLimit) (highEnd g edge) 0 (rw length-set (omega (arith, l .long)))
+  at-high = getD-set-same (set ends edge (lowEnd g edge)) (edge + edgeLimit) (highEnd g edge) 0
+      (rw length-set (omega (arith, l .long)))
 
   at-other : (p : ℕ) → p ≢ edge → p ≢ edge + edgeLimit → at longer p ≡ at ends p
   unfolding longer
@@ -57,10 +59,13 @@ module _ {g : Network} {edge : ℕ} {ends : List ℕ} (l : LaidTo g edge ends) (
   laid-on = record {
     long = simp length-set (l .long);
     room = omega arith;
-    low = below-more (λ e. at longer e ≡ lowEnd g e) edge (λ e k. same-low e (λ q. omega arith) (omega arith) ∙ l .low e k) at-low;
+    low = below-more (λ e. at longer e ≡ lowEnd g e) edge
+        (λ e k. same-low e (λ q. omega arith) (omega arith) ∙ l .low e k) at-low;
     high =
-        below-more (λ e. at longer (e + edgeLimit) ≡ highEnd g e) edge (λ e k. same-high e (λ q. omega arith) (omega arith) ∙ l .high e k) at-high;
-    spare = λ e le k. same-low e (λ q. omega arith) k ∙ l .spare e (omega arith) k ∙ sym (same-high e (λ q. omega arith) k);
+        below-more (λ e. at longer (e + edgeLimit) ≡ highEnd g e) edge
+        (λ e k. same-high e (λ q. omega arith) (omega arith) ∙ l .high e k) at-high;
+    spare = λ e le k. same-low e (λ q. omega arith) k ∙ l .spare e (omega arith) k
+        ∙ sym (same-high e (λ q. omega arith) k);
   }
 
 -- every arc can carry one unit
@@ -107,6 +112,7 @@ module _ {g : Network} {ends : List ℕ} (l : Laid g ends) (S : Side) where
   unfolding across
   across-spare e h = rw (l .spare (g .edges + e) (omega arith) (omega (arith, l .room))) (differ-same _)
 
+  -- at the start an edge that crosses a side has one arc out of it, and an edge that does not has none
   pub capacity-ones : capacity ends ones S ≡ crossings g S
   unfolding capacity crossingsOf out
   capacity-ones =

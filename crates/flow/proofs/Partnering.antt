@@ -5,7 +5,8 @@ use native.Mathlib.Omega.{arith}
 use Rattle.graph.specs.Network.{far}
 use Rattle.graph.specs.Sound.{Formed}
 use Rattle.graph.specs.Split.{split}
-use Rattle.graph.specs.State.{edgeLimit, Splittable}
+use Rattle.base.specs.Limits.{edgeLimit}
+use Rattle.graph.specs.State.{Splittable}
 use Rattle.graph.specs.declared.Network.{Network}
 use Rattle.graph.proofs.Partners.{Chosen}
 use Rattle.graph.proofs.Rules.{named, end-here}

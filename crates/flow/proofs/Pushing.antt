@@ -8,10 +8,10 @@ use native.Mathlib.Omega.{arith}
 use native.Mathlib.Decide.{ℕ-discrete}
 use lib.ListN.{length, set, length-set}
 use lib.Seq.{getD-set-same, getD-set-other}
-use Rattle.graph.specs.Fold.{bit}
+use Rattle.base.specs.Fold.{bit}
 use Rattle.graph.specs.Cut.{Side}
-use Rattle.graph.specs.State.{vertexLimit}
-use Rattle.graph.proofs.Sums.{sum-change}
+use Rattle.base.specs.Limits.{vertexLimit}
+use Rattle.base.proofs.Sums.{sum-change}
 use Rattle.flow.specs.Arcs.{arcLimit, at, reverse, tail, head, leaving, carried, capacity, Balanced}
 use Rattle.flow.specs.Search.{Link, Tree}
 use Rattle.flow.specs.Flow.{pushed, Sendable, Sent}
@@ -19,17 +19,20 @@ use Rattle.flow.proofs.Reaching.{clock-most}
 
 -- another capacity for one arc
 capacity-set : (ends residual : List ℕ) (S : Side) (p c : ℕ) → length residual ≡ arcLimit → p < arcLimit
-    → capacity ends (set residual p c) S + carried ends S p (at residual p) ≡ capacity ends residual S + carried ends S p c
+    → capacity ends (set residual p c) S + carried ends S p (at residual p)
+    ≡ capacity ends residual S + carried ends S p c
 unfolding capacity
 capacity-set ends residual S p c long l =
     let new : ℕ → ℕ = λ q. carried ends S q (at (set residual p c) q) in
     let old : ℕ → ℕ = λ q. carried ends S q (at residual q) in
-    let change = sum-change arcLimit p new old l (λ q _ ne. ap (carried ends S q) (getD-set-other residual p q c 0 ne)) in
+    let change = sum-change arcLimit p new old l (λ q _ ne. ap (carried ends S q) (getD-set-other residual p q c 0 ne))
+    in
     let here = ap (carried ends S p) (getD-set-same residual p c 0 (omega arith)) in
     omega arith
 
 -- an arc and its reverse, of capacities c and d, between parts x and y: what leaves the part, before and after a push
-push-leaving : (x y : Bool) (before between after c d : ℕ) → 1 ≤ c → between + leaving x y c ≡ before + leaving x y (c - 1)
+push-leaving : (x y : Bool) (before between after c d : ℕ) → 1 ≤ c
+    → between + leaving x y c ≡ before + leaving x y (c - 1)
     → after + leaving y x d ≡ between + leaving y x (d + 1) → after + bit x ≡ before + bit y
 unfolding leaving
 push-leaving true true before between after c d h e f = omega arith
@@ -51,7 +54,8 @@ module _ {residual : List ℕ} (b : Balanced residual) (p : ℕ) (arc : p < arcL
 
   pushed-reverse : at (pushed residual p) (reverse p) ≡ at residual (reverse p) + 1
   unfolding pushed
-  pushed-reverse = getD-set-same (set residual p (at residual p - 1)) (reverse p) _ 0 (rw length-set (omega (arith, b .long)))
+  pushed-reverse = getD-set-same (set residual p (at residual p - 1)) (reverse p) _ 0
+      (rw length-set (omega (arith, b .long)))
 
   pushed-other : (q : ℕ) → q ≢ p → q ≢ reverse p → at (pushed residual p) q ≡ at residual q
   unfolding pushed
@@ -70,25 +74,34 @@ module _ {residual : List ℕ} (b : Balanced residual) (p : ℕ) (arc : p < arcL
       | yes e ↦ rw e (omega (arith, pushed-arc, pushed-reverse, b .paired p arc))
       | no np ↦
           elim (ℕ-discrete q (reverse p)) [
-            | yes e ↦ (let back : reverse q ≡ p = omega arith in rw (back, e) (omega (arith, pushed-arc, pushed-reverse, b .paired p arc)))
+            | yes e ↦ (let back : reverse q ≡ p = omega arith in
+                rw (back, e) (omega (arith, pushed-arc, pushed-reverse, b .paired p arc)))
             | no nr ↦
-                omega (arith, b .paired q l, pushed-other q np nr, pushed-other (reverse q) (λ e. nr (omega arith)) (λ e. np (omega arith)))
+                omega (
+                  arith,
+                  b .paired q l,
+                  pushed-other q np nr,
+                  pushed-other (reverse q) (λ e. nr (omega arith)) (λ e. np (omega arith)),
+                )
           ]
     ]
 
     pushed-balanced : Balanced (pushed residual p)
     pushed-balanced = record { long = unfold pushed in simp length-set (b .long); paired = pushed-paired }
 
-    -- for every side: the push takes a unit from the part of the arc's tail to that of its head
+    -- for every side: the push takes a unit from the part of the arc's tail to that of its head. This holds of all
+    -- sides at once, so nothing need be said of conservation at a vertex
     capacity-pushed : (ends : List ℕ) (S : Side)
         → capacity ends (pushed residual p) S + bit (S (tail ends p)) ≡ capacity ends residual S + bit (S (head ends p))
     unfolding pushed
     capacity-pushed ends S =
         let less = set residual p (at residual p - 1) in
         let first = capacity-set ends residual S p (at residual p - 1) (b .long) arc in
-        let second = capacity-set ends less S (reverse p) (at residual (reverse p) + 1) (rw length-set (b .long)) (omega arith) in
+        let second = capacity-set ends less S (reverse p) (at residual (reverse p) + 1) (rw length-set (b .long))
+        (omega arith) in
         let back : reverse (reverse p) ≡ p = omega arith in
-        let same : at less (reverse p) ≡ at residual (reverse p) = getD-set-other residual p (reverse p) _ 0 reverse-other in
+        let same : at less (reverse p) ≡ at residual (reverse p) =
+        getD-set-other residual p (reverse p) _ 0 reverse-other in
         push-leaving (S (tail ends p)) (S (head ends p)) _ _ _ _ _ carries first (rw (back, same) at second)
 
 -- a unit is on its way back along the trail: it has still to come to the vertex of this number
@@ -133,7 +146,8 @@ module _ {ends residual₀ order trail : List ℕ} {target : ℕ} (s : Sendable 
       link-back = rw (way .numbered) at (tree .link (way .vertex) (omega (arith, way .numbered)))
 
       pub carries-back : 1 ≤ at residual (at trail number)
-      carries-back = rw (way .numbered) at (way .ahead (way .vertex) (omega (arith, way .numbered)) (omega (arith, way .numbered)))
+      carries-back = rw (way .numbered) at
+          (way .ahead (way .vertex) (omega (arith, way .numbered)) (omega (arith, way .numbered)))
 
       -- no vertex before it was reached by the same arc
       another-arc : (w : ℕ) → 2 ≤ at order w → at order w < number → at trail (at order w) ≢ at trail number
@@ -141,7 +155,9 @@ module _ {ends residual₀ order trail : List ℕ} {target : ℕ} (s : Sendable 
           let same : at order w ≡ at order (way .vertex) = cc (tree .link w h .arrives, link-back .arrives) in
           omega (arith, way .numbered)
 
-      pub partway-on : Partway ends order trail target residual₀ (pushed residual (at trail number)) (at order (tail ends (at trail number)))
+      -- one arc further back: the part of its tail replaces that of its head, so that what lies between cancels
+      pub partway-on : Partway ends order trail target residual₀ (pushed residual (at trail number))
+          (at order (tail ends (at trail number)))
       partway-on = record {
         vertex = tail ends p;
         numbered = refl;
@@ -149,7 +165,8 @@ module _ {ends residual₀ order trail : List ℕ} {target : ℕ} (s : Sendable 
         balanced = pushed-balanced (way .balanced) p (link-back .arc) carries-back;
         ahead = λ w h le.
             let l : at order w < number = omega (arith, way .numbered, link-back .earlier) in
-            pushed-carries (way .balanced) p (link-back .arc) (at trail (at order w)) (another-arc w h l) (way .ahead w h (omega arith));
+            pushed-carries (way .balanced) p (link-back .arc) (at trail (at order w)) (another-arc w h l)
+            (way .ahead w h (omega arith));
         spent = λ S.
             let one = capacity-pushed (way .balanced) p (link-back .arc) carries-back ends S in
             let arrives = ap (λ v. bit (S v)) (link-back .arrives) in

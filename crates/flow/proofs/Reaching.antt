@@ -9,10 +9,10 @@ use native.Mathlib.Decide.{ℕ-discrete}
 use borrow.Author.Count.{below-more}
 use lib.ListN.{length, set, length-set}
 use lib.Seq.{getD-set-same, getD-set-other}
-use Rattle.graph.specs.Fold.{bit}
-use Rattle.graph.specs.State.{vertexLimit}
-use Rattle.graph.proofs.Bools.{bit-low}
-use Rattle.graph.proofs.Sums.{sum-bound, sum-change}
+use Rattle.base.specs.Fold.{bit}
+use Rattle.base.specs.Limits.{vertexLimit}
+use Rattle.base.proofs.Bools.{bit-low}
+use Rattle.base.proofs.Sums.{sum-bound, sum-change}
 use Rattle.flow.specs.Arcs.{arcLimit, at, tail, head}
 use Rattle.flow.specs.Search.{positive, reached, reachedCount, Link, Tree, Grown, Shut, Relaxed, Swept, Stuck}
 use Rattle.flow.specs.declared.Pair.{Pair}
@@ -23,7 +23,10 @@ positive-yes (suc n) h = refl
 
 count-most : (order : List ℕ) → reachedCount order ≤ vertexLimit
 unfolding reachedCount
-count-most order = omega (arith, sum-bound vertexLimit 1 (λ v. bit (reached order v)) (λ v l. bit-low (reached order v)))
+count-most order = omega (
+  arith,
+  sum-bound vertexLimit 1 (λ v. bit (reached order v)) (λ v l. bit-low (reached order v)),
+)
 
 count-more : (order : List ℕ) (w n : ℕ) → length order ≡ vertexLimit → w < vertexLimit → at order w ≡ 0 → 1 ≤ n
     → reachedCount (set order w n) ≡ reachedCount order + 1
@@ -37,7 +40,8 @@ count-more order w n long l new pos =
     omega arith
 
 -- no more numbers are given than there are vertices
-pub clock-most : {ends residual order trail : List ℕ} {clock : ℕ} → Tree ends residual order trail clock → clock ≤ vertexLimit
+pub clock-most : {ends residual order trail : List ℕ} {clock : ℕ} → Tree ends residual order trail clock
+    → clock ≤ vertexLimit
 clock-most {order = order} t = omega (arith, t .counted, count-most order)
 
 -- the numbers once arc p has led on, to the vertex at its head
@@ -92,15 +96,18 @@ module _ {ends residual order trail : List ℕ} {clock p : ℕ} (on : LeadsOn en
   }
 
   link-on : (v : ℕ) → 2 ≤ at (numberedOn ends order clock p) v
-      → Link ends residual (numberedOn ends order clock p) (at (set trail (clock + 1) p) (at (numberedOn ends order clock p) v)) v
+      → Link ends residual (numberedOn ends order clock p)
+      (at (set trail (clock + 1) p) (at (numberedOn ends order clock p) v)) v
   link-on v h = elim (ℕ-discrete v (head ends p)) [
     | yes e ↦ rw (e, at-new, getD-set-same trail (clock + 1) p 0 (omega (arith, number-left, t .long-trail))) new-link
     | no ne ↦
         (let a = at-other v ne in
-        rw (a, getD-set-other trail (clock + 1) (at order v) p 0 (λ e. omega (arith, t .numbered v))) (old-link _ v (t .link v (omega arith))))
+        rw (a, getD-set-other trail (clock + 1) (at order v) p 0 (λ e. omega (arith, t .numbered v)))
+        (old-link _ v (t .link v (omega arith))))
   ]
 
-  pub leads-on : Relaxed ends residual p order clock (numberedOn ends order clock p) (set trail (clock + 1) p) (clock + 1)
+  pub leads-on : Relaxed ends residual p order clock (numberedOn ends order clock p) (set trail (clock + 1) p)
+      (clock + 1)
   leads-on = record {
     grown = record {
       tree = record {
@@ -110,7 +117,8 @@ module _ {ends residual order trail : List ℕ} {clock p : ℕ} (on : LeadsOn en
         long-trail = rw length-set (t .long-trail);
         begun = omega arith;
         counted = omega (arith, count-on, t .counted);
-        numbered = λ v. elim (ℕ-discrete v (head ends p)) [ yes e ↦ rw (e, at-new) (omega arith) | no ne ↦ omega (arith, at-other v ne, t .numbered v) ];
+        numbered = λ v. elim (ℕ-discrete v (head ends p))
+            [ yes e ↦ rw (e, at-new) (omega arith) | no ne ↦ omega (arith, at-other v ne, t .numbered v) ];
         link = link-on;
       };
       rises = omega arith;
@@ -129,7 +137,8 @@ pub grown-none : {ends residual order trail : List ℕ} {clock : ℕ} → Tree e
     → Grown ends residual order clock order trail clock
 grown-none t = record { tree = t; rises = omega arith; still = λ _. refl; kept = λ v h. h; root = λ v h. h }
 
-pub grown-on : {ends residual a b tb c tc : List ℕ} {i j k : ℕ} → Grown ends residual a i b tb j → Grown ends residual b j c tc k
+pub grown-on : {ends residual a b tb c tc : List ℕ} {i j k : ℕ} → Grown ends residual a i b tb j
+    → Grown ends residual b j c tc k
     → Grown ends residual a i c tc k
 grown-on g h = record {
   tree = h .tree;
@@ -143,12 +152,14 @@ pub swept-none : {ends residual order trail : List ℕ} {clock : ℕ} → Tree e
     → Swept ends residual 0 order clock order trail clock
 swept-none t = record { grown = grown-none t; shut = λ _ p h. absurd (omega arith) }
 
-pub swept-on : {ends residual a b tb c tc : List ℕ} {m i j k : ℕ} → Swept ends residual m a i b tb j → Relaxed ends residual m b j c tc k
+pub swept-on : {ends residual a b tb c tc : List ℕ} {m i j k : ℕ} → Swept ends residual m a i b tb j
+    → Relaxed ends residual m b j c tc k
     → Swept ends residual (m + 1) a i c tc k
 swept-on {ends} {residual} {c = c} {m} s r = record {
   grown = grown-on (s .grown) (r .grown);
   shut = λ e. below-more (λ p. Shut ends residual c p) m
-      (λ p l. rw (r .grown .still (omega (arith, s .grown .rises, r .grown .rises))) (s .shut (omega (arith, s .grown .rises, r .grown .rises)) p l))
+      (λ p l. rw (r .grown .still (omega (arith, s .grown .rises, r .grown .rises)))
+      (s .shut (omega (arith, s .grown .rises, r .grown .rises)) p l))
       (r .shut);
 }
 

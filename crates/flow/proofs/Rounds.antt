@@ -1,4 +1,5 @@
--- Laws of a round: the start of a search, its two endings, and what a number of rounds says of the cuts between the terminals.
+-- Laws of a round: the start of a search, its two endings, and what a
+-- number of rounds says of the cuts between the terminals.
 use mathlib.Core.Path.{_≡_, refl, sym, _∙_, ap}
 use mathlib.Core.Logic.{_≢_, _⊎_, inl, inr, ⊎-elim}
 use mathlib.Core.Bool.{Bool, true, false}
@@ -8,12 +9,12 @@ use native.Mathlib.Omega.{arith}
 use native.Mathlib.Decide.{ℕ-discrete}
 use lib.ListN.{length, set, replicate, length-set, length-replicate}
 use lib.Seq.{getD-set-same, getD-set-other}
-use Rattle.graph.specs.Fold.{bit}
+use Rattle.base.specs.Fold.{bit}
 use Rattle.graph.specs.Cut.{Side, crossings}
-use Rattle.graph.specs.State.{vertexLimit}
+use Rattle.base.specs.Limits.{vertexLimit}
 use Rattle.graph.specs.declared.Network.{Network}
-use Rattle.graph.proofs.Bools.{never}
-use Rattle.graph.proofs.Sums.{sum-ext, sum-zeros, term-le}
+use Rattle.base.proofs.Bools.{never}
+use Rattle.base.proofs.Sums.{sum-ext, sum-zeros, term-le}
 use Rattle.flow.specs.Apart.{Between, FourApart}
 use Rattle.flow.specs.Arcs.{arcLimit, at, tail, head, Laid, leaving, capacity, Balanced}
 use Rattle.flow.specs.Search.{positive, reached, reachedCount, Tree, Shut, Stuck, Arrived, Ends, Searched}
@@ -32,11 +33,13 @@ leaving-none (suc from) (suc to) c h = refl
 leaving-none (suc from) zero zero h = refl
 leaving-none (suc from) zero (suc c) h = absurd (omega (arith, h (omega arith) (omega arith)))
 
+-- so what is reached is a side that can pass nothing more
 shut-full : (ends residual order : List ℕ)
     → ((p : ℕ) → p < arcLimit → Shut ends residual order p) → capacity ends residual (reached order) ≡ 0
 unfolding capacity
 shut-full ends residual order h =
-    sum-ext arcLimit _ (λ _. 0) (λ p l. leaving-none (at order (tail ends p)) (at order (head ends p)) (at residual p) (h p l))
+    sum-ext arcLimit _ (λ _. 0)
+    (λ p l. leaving-none (at order (tail ends p)) (at order (head ends p)) (at residual p) (h p l))
     ∙ sum-zeros arcLimit
 
 -- no vertex has a number yet, and the sources are vertices
@@ -46,7 +49,8 @@ pub record Blank (none : List ℕ) (sources : Pair) : Type 0 where
   pub first-vertex : sources .first < vertexLimit
   pub second-vertex : sources .second < vertexLimit
 
-pub blank : (sources : Pair) → sources .first < vertexLimit → sources .second < vertexLimit → Blank (replicate vertexLimit 0) sources
+pub blank : (sources : Pair) → sources .first < vertexLimit → sources .second < vertexLimit
+    → Blank (replicate vertexLimit 0) sources
 blank sources first second = record {
   long = length-replicate {A = ℕ} vertexLimit 0;
   empty = zeros vertexLimit;
@@ -65,7 +69,8 @@ sown none sources = set (set none (sources .first) 1) (sources .second) 1
 
 module _ {none : List ℕ} {sources : Pair} (b : Blank none sources) where
   sown-second : at (sown none sources) (sources .second) ≡ 1
-  sown-second = getD-set-same (set none (sources .first) 1) (sources .second) 1 0 (rw length-set (omega (arith, b .long, b .second-vertex)))
+  sown-second = getD-set-same (set none (sources .first) 1) (sources .second) 1 0
+      (rw length-set (omega (arith, b .long, b .second-vertex)))
 
   sown-first : at (sown none sources) (sources .first) ≡ 1
   sown-first =
@@ -100,7 +105,8 @@ module _ {none : List ℕ} {sources : Pair} (b : Blank none sources) where
       let one = ap (λ n. bit (positive n)) sown-second in
       omega (arith, term-le vertexLimit (λ v. bit (reached (sown none sources) v)) (sources .second) (b .second-vertex))
 
-  pub sown-tree : (ends residual trail : List ℕ) → length ends ≡ arcLimit → length residual ≡ arcLimit → length trail ≡ vertexLimit + 1
+  pub sown-tree : (ends residual trail : List ℕ) → length ends ≡ arcLimit → length residual ≡ arcLimit
+      → length trail ≡ vertexLimit + 1
       → Tree ends residual (sown none sources) trail 1
   sown-tree ends residual trail le lr lt = record {
     long-ends = le;
@@ -126,15 +132,24 @@ module _ {none : List ℕ} {sources : Pair} (b : Blank none sources) where
     arrived e = rw e at (s .ending)
 
     pub sendable : {v : ℕ} → found ≡ Sink v → Balanced residual → Sendable ends residual order' trail' v
-    sendable e balanced = record { vertex = arrived e .vertex; is-reached = arrived e .is-reached; balanced = balanced; back = (_, s .grown .tree) }
+    sendable e balanced =
+        record {
+          vertex = arrived e .vertex;
+          is-reached = arrived e .is-reached;
+          balanced = balanced;
+          back =
+              (_, s .grown .tree);
+        }
 
+    -- a sink was reached: a side between the terminals has the path's start in and its end out, and passes one less
     pub round-sent : {v : ℕ} {residual' : List ℕ} → found ≡ Sink v → Sent ends order' v residual residual'
         → Rounded ends sources sinks residual residual' true
     round-sent {v} e sent = record {
       balanced = sent .balanced;
       more = λ _ S cut.
           let spent = sent .spent S (λ u h. sown-in S (cut .first-in) (cut .second-in) u (s .grown .root u h)) in
-          let out : S v ≡ false = ⊎-elim (λ q. ap S q ∙ cut .first-out) (λ q. ap S q ∙ cut .second-out) (arrived e .is-sink) in
+          let out : S v ≡ false =
+          ⊎-elim (λ q. ap S q ∙ cut .first-out) (λ q. ap S q ∙ cut .second-out) (arrived e .is-sink) in
           let none-in = ap bit out in
           omega arith;
       full = λ q. never (sym q);
@@ -144,6 +159,7 @@ module _ {none : List ℕ} {sources : Pair} (b : Blank none sources) where
     unfolding Ends
     stuck e = rw e at (s .ending)
 
+    -- no sink was reached: what is reached is a side between the terminals that can pass nothing
     pub round-full : found ≡ Nothing → Balanced residual → Rounded ends sources sinks residual residual false
     round-full e balanced = record {
       balanced = balanced;
@@ -160,11 +176,13 @@ module _ {none : List ℕ} {sources : Pair} (b : Blank none sources) where
       );
     }
 
--- so many units were sent: what every side between the terminals could pass at the start is that much more than it can pass now
+-- so many units were sent: what every side between the terminals
+-- could pass at the start is that much more than it can pass now
 pub record Level (ends : List ℕ) (sources sinks : Pair) (residual : List ℕ) (sent : ℕ) : Type 0 where
   pub few : sent ≤ 4
   pub balanced : Balanced residual
-  pub passed : (g : Network) → Laid g ends → (S : Side) → Between sources sinks S → capacity ends residual S + sent ≡ crossings g S
+  pub passed : (g : Network) → Laid g ends → (S : Side) → Between sources sinks S
+      → capacity ends residual S + sent ≡ crossings g S
 
 pub level-none : (ends : List ℕ) (sources sinks : Pair) → Level ends sources sinks ones 0
 level-none ends sources sinks = record {
@@ -173,8 +191,10 @@ level-none ends sources sinks = record {
   passed = λ g l S b. omega (arith, capacity-ones l S);
 }
 
-module _ {ends : List ℕ} {sources sinks : Pair} {residual : List ℕ} {sent : ℕ} (level : Level ends sources sinks residual sent) where
-  pub level-on : {residual' : List ℕ} {more : Bool} → sent < 4 → more ≡ true → Rounded ends sources sinks residual residual' more
+module _ {ends : List ℕ} {sources sinks : Pair} {residual : List ℕ} {sent : ℕ}
+    (level : Level ends sources sinks residual sent) where
+  pub level-on : {residual' : List ℕ} {more : Bool} → sent < 4 → more ≡ true
+      → Rounded ends sources sinks residual residual' more
       → Level ends sources sinks residual' (sent + 1)
   level-on lt e r = record {
     few = omega arith;
@@ -182,12 +202,14 @@ module _ {ends : List ℕ} {sources sinks : Pair} {residual : List ℕ} {sent : 
     passed = λ g l S b. omega (arith, level .passed g l S b, r .more e S b);
   }
 
-  -- a round that sends nothing finds a side that too few edges cross
-  pub level-short : {residual' : List ℕ} {more : Bool} → sent < 4 → more ≡ false → Rounded ends sources sinks residual residual' more
+  -- a round that sends nothing finds a side that too few edges cross: as many as were sent, since it passes no more
+  pub level-short : {residual' : List ℕ} {more : Bool} → sent < 4 → more ≡ false
+      → Rounded ends sources sinks residual residual' more
       → (g : Network) → Laid g ends → FourApart g sources sinks → ⊥
   level-short lt e r g l apart =
       let cut = r .full e in
       omega (arith, cut .2, level .passed g l (cut .0) (cut .1), apart (cut .0) (cut .1))
 
+  -- after four units every side between the terminals is crossed by four edges and by as many as it can still pass
   pub level-four : 4 ≤ sent → (g : Network) → Laid g ends → FourApart g sources sinks
   level-four le g l S b = omega (arith, level .passed g l S b)

@@ -1,14 +1,15 @@
--- The arcs of a network and what they can still carry. Edge e has two arcs: arc e from its low end to its high end, and arc
--- e + edgeLimit back. A list `ends` has the vertex where each arc starts, and a list `residual` what each can still carry.
+-- The arcs of a network and what they can still carry. Edge e has two arcs: arc e from
+-- its low end to its high end, and arc e + edgeLimit back. A list `ends` has the vertex
+-- where each arc starts, and a list `residual` what each can still carry.
 use mathlib.Core.Bool.{Bool, true, false}
 use mathlib.Core.List.{List}
 use mathlib.Core.Path.{_≡_}
 use Prim.Native.Nat.{ℕ, _+_, _*_, _%_, _≤_, _<_}
 use lib.ListN.{length, getD}
-use Rattle.graph.specs.Fold.{sum}
+use Rattle.base.specs.Fold.{sum}
 use Rattle.graph.specs.Network.{lowEnd, highEnd}
 use Rattle.graph.specs.Cut.{Side}
-use Rattle.graph.specs.State.{edgeLimit}
+use Rattle.base.specs.Limits.{edgeLimit}
 use Rattle.graph.specs.declared.Network.{Network}
 
 -- how many arcs there are at most

@@ -4,9 +4,9 @@ use mathlib.Core.List.{List}
 use mathlib.Core.Path.{_≡_}
 use Prim.Native.Nat.{ℕ, _+_, _-_, _≤_, _<_}
 use lib.ListN.{set}
-use Rattle.graph.specs.Fold.{bit}
+use Rattle.base.specs.Fold.{bit}
 use Rattle.graph.specs.Cut.{Side}
-use Rattle.graph.specs.State.{vertexLimit}
+use Rattle.base.specs.Limits.{vertexLimit}
 use Rattle.flow.specs.Apart.{Between}
 use Rattle.flow.specs.Arcs.{at, reverse, capacity, Balanced}
 use Rattle.flow.specs.Search.{Trail}
@@ -32,5 +32,6 @@ pub record Sent (ends order : List ℕ) (v : ℕ) (residual residual' : List ℕ
 -- one round: either a unit was sent, or a side between the terminals is found that nothing more can pass
 pub record Rounded (ends : List ℕ) (sources sinks : Pair) (residual residual' : List ℕ) (sent : Bool) : Type 0 where
   pub balanced : Balanced residual'
-  pub more : sent ≡ true → (S : Side) → Between sources sinks S → capacity ends residual' S + 1 ≡ capacity ends residual S
+  pub more : sent ≡ true → (S : Side) → Between sources sinks S
+      → capacity ends residual' S + 1 ≡ capacity ends residual S
   pub full : sent ≡ false → (S : Side) × Between sources sinks S × (capacity ends residual S ≡ 0)

@@ -1,14 +1,15 @@
--- A search along arcs that can still carry something. `order` numbers the vertices as they are reached, the sources by 1 and the
--- others from 2 on, and has 0 for a vertex that is not reached; `trail` has the arc by which each number was reached.
+-- A search along arcs that can still carry something. `order` numbers the vertices as
+-- they are reached, the sources by 1 and the others from 2 on, and has 0 for a vertex
+-- that is not reached; `trail` has the arc by which each number was reached.
 use mathlib.Core.Bool.{Bool, true, false}
 use mathlib.Core.List.{List}
 use mathlib.Core.Logic.{_⊎_}
 use mathlib.Core.Path.{_≡_}
 use Prim.Native.Nat.{ℕ, zero, suc, _+_, _≤_, _<_}
 use lib.ListN.{length}
-use Rattle.graph.specs.Fold.{sum, bit}
+use Rattle.base.specs.Fold.{sum, bit}
 use Rattle.graph.specs.Cut.{Side}
-use Rattle.graph.specs.State.{vertexLimit}
+use Rattle.base.specs.Limits.{vertexLimit}
 use Rattle.flow.specs.Arcs.{arcLimit, at, tail, head}
 use Rattle.flow.specs.declared.Pair.{Pair}
 use Rattle.flow.specs.declared.search.Found.{Found}
@@ -33,7 +34,8 @@ pub record Link (ends residual order : List ℕ) (p v : ℕ) : Type 0 where
   pub earlier : at order (tail ends p) < at order v
   pub carries : 1 ≤ at residual p
 
--- what a search has found so far: `clock` is the last number given, and the trail leads back to a source from every vertex that is reached
+-- what a search has found so far: `clock` is the last number given, and the
+-- trail leads back to a source from every vertex that is reached
 pub record Tree (ends residual order trail : List ℕ) (clock : ℕ) : Type 0 where
   pub long-ends : length ends ≡ arcLimit
   pub long-residual : length residual ≡ arcLimit
@@ -61,12 +63,14 @@ abbrev pub Shut : List ℕ → List ℕ → List ℕ → ℕ → Type 0
 Shut ends residual order p = 1 ≤ at residual p → 1 ≤ at order (tail ends p) → 1 ≤ at order (head ends p)
 
 -- arc p was tried
-pub record Relaxed (ends residual : List ℕ) (p : ℕ) (order : List ℕ) (clock : ℕ) (order' trail' : List ℕ) (clock' : ℕ) : Type 0 where
+pub record Relaxed (ends residual : List ℕ) (p : ℕ) (order : List ℕ) (clock : ℕ) (order' trail' : List ℕ) (clock' : ℕ) :
+    Type 0 where
   pub grown : Grown ends residual order clock order' trail' clock'
   pub shut : Shut ends residual order' p
 
 -- the arcs below m were tried in turn: where the clock stands still, none of them leads on
-pub record Swept (ends residual : List ℕ) (m : ℕ) (order : List ℕ) (clock : ℕ) (order' trail' : List ℕ) (clock' : ℕ) : Type 0 where
+pub record Swept (ends residual : List ℕ) (m : ℕ) (order : List ℕ) (clock : ℕ) (order' trail' : List ℕ) (clock' : ℕ) :
+    Type 0 where
   pub grown : Grown ends residual order clock order' trail' clock'
   pub shut : clock' ≡ clock → (p : ℕ) → p < m → Shut ends residual order' p
 
@@ -87,7 +91,8 @@ unfoldable pub Ends : List ℕ → List ℕ → Pair → List ℕ → Found → 
 Ends ends residual sinks order (Sink v) = Arrived sinks order v
 Ends ends residual sinks order Nothing = Stuck ends residual sinks order
 
-pub record Searched (ends residual : List ℕ) (sinks : Pair) (order order' trail' : List ℕ) (found : Found) : Type 0 where
-  pub clock : ℕ
-  pub grown : Grown ends residual order 1 order' trail' clock
-  pub ending : Ends ends residual sinks order' found
+pub record Searched (ends residual : List ℕ) (sinks : Pair) (order order' trail' : List ℕ) (found : Found) : Type 0
+  where
+    pub clock : ℕ
+    pub grown : Grown ends residual order 1 order' trail' clock
+    pub ending : Ends ends residual sinks order' found

@@ -3,9 +3,9 @@ ghost use lib.ListN.{length};
 ghost use mathlib.Core.Path.{_≡_};
 ghost use Rattle.graph.specs.Sound.{Formed};
 ghost use Rattle.flow.specs.Arcs.{arcLimit, Laid};
-use graph::EDGE_LIMIT;
+use base::EDGE_LIMIT;
+use base::VERTEX_LIMIT;
 use graph::Network;
-use graph::VERTEX_LIMIT;
 
 // An edge has two arcs, one each way, and a vertex four ports.
 pub const ARC_LIMIT: usize = 2 * EDGE_LIMIT;

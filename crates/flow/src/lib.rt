@@ -47,7 +47,8 @@ fn first_present(present: &[bool], vertices: usize) -> usize
     vertex
 }
 
-// Whether every cut is crossed by at least four edges: whether the first present vertex is four apart from every other one.
+// Whether every cut is crossed by at least four edges: whether the
+// first present vertex is four apart from every other one.
 pub fn every_cut_four(network: Network) -> bool
     requires { ⌜ Formed network ⌝ }
     ensures { λ r. ⌜ r ≡ everyCut 4 network ⌝ }
@@ -83,8 +84,8 @@ pub fn every_cut_four(network: Network) -> bool
     true
 }
 
-// Whether partner x at v, an end of the reserved edge, is admissible; y and z are the other two partners, in rising order.
-// It tests every cut of the network after that split.
+// Whether partner x at v, an end of the reserved edge, is admissible; y and z are the other
+// two partners, in rising order. It tests every cut of the network after that split.
 pub fn admissible(network: Network, v: u8, x: usize, y: usize, z: usize) -> bool
     requires { ⌜ Partnered network v x y z ⌝ }
     ensures { λ r. ⌜ r ≡ admissible network v x ⌝ }

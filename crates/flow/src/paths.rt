@@ -12,8 +12,8 @@ use crate::Pair;
 use crate::arcs::ARC_LIMIT;
 use crate::search;
 use crate::search::Found;
-use graph::EDGE_LIMIT;
-use graph::VERTEX_LIMIT;
+use base::EDGE_LIMIT;
+use base::VERTEX_LIMIT;
 
 // The least number of edges that may cross a cut, and so of units that can be sent across it.
 const LEAST: usize = 4;
@@ -34,7 +34,8 @@ fn push(residual: &mut [u8], arc: usize)
 // Sends a unit to a vertex that is reached, back along the trail to a source.
 fn augment(ends: &[u8], residual: &mut [u8], order: &[u16], trail: &[u16], vertex: usize)
     requires { ⌜ Sendable (now ends) (now residual) (now order) (now trail) vertex ⌝ }
-    ensures { λ _. ⌜ Sent (now (ends .entry)) (now (order .entry)) vertex (now (residual .entry)) (now (residual .exit)) ⌝ }
+    ensures { λ _. ⌜ Sent (now (ends .entry)) (now (order .entry)) vertex (now (residual .entry)) (now (residual .exit))
+        ⌝ }
 {
     let mut number = order[vertex] as usize;
     while number > 1 {
@@ -50,7 +51,8 @@ fn round(ends: &[u8], residual: &mut [u8], ports: &[u16], sources: Pair, sinks: 
     requires { ⌜ length (now ends) ≡ arcLimit ⌝ }
     requires { ⌜ length (now ports) ≡ arcLimit ⌝ }
     requires { ⌜ Balanced (now residual) ⌝ }
-    ensures { λ sent. ⌜ Rounded (now (ends .entry)) sources sinks (now (residual .entry)) (now (residual .exit)) sent ⌝ }
+    ensures { λ sent. ⌜ Rounded (now (ends .entry)) sources sinks (now (residual .entry))
+        (now (residual .exit)) sent ⌝ }
 {
     let first = sources.first as usize;
     let second = sources.second as usize;

@@ -7,7 +7,7 @@ ghost use Rattle.flow.specs.Search.{Tree, Grown, Relaxed, Swept, Searche
 use crate::Pair;
 use crate::arcs::ARC_LIMIT;
 use crate::arcs::PORTS;
-use graph::EDGE_LIMIT;
+use base::EDGE_LIMIT;
 
 // What a search finds: the sink that it reached, if any.
 pub enum Found {
@@ -15,7 +15,8 @@ pub enum Found {
     Nothing,
 }
 
-// Tries one arc: where it can carry something from a vertex that is reached, its far end is reached too. Returns the last number given.
+// Tries one arc: where it can carry something from a vertex that is
+// reached, its far end is reached too. Returns the last number given.
 fn relax(
     ends: &[u8],
     residual: &[u8],
@@ -26,7 +27,8 @@ fn relax(
 ) -> usize
     requires { ⌜ arc < arcLimit ⌝ }
     requires { ⌜ Tree (now ends) (now residual) (now order) (now trail) clock ⌝ }
-    ensures { λ r. ⌜ Relaxed (now (ends .entry)) (now (residual .entry)) arc (now (order .entry)) clock (now (order .exit)) (now (trail .exit)) r ⌝ }
+    ensures { λ r. ⌜ Relaxed (now (ends .entry)) (now (residual .entry)) arc (now (order .entry)) clock
+        (now (order .exit)) (now (trail .exit)) r ⌝ }
 {
     if residual[arc] == 0 {
         return clock;
@@ -48,7 +50,8 @@ fn relax(
 // Tries every arc once. If that reaches nothing new, no arc leads on.
 fn sweep(ends: &[u8], residual: &[u8], order: &mut [u16], trail: &mut [u16], clock: usize) -> usize
     requires { ⌜ Tree (now ends) (now residual) (now order) (now trail) clock ⌝ }
-    ensures { λ r. ⌜ Swept (now (ends .entry)) (now (residual .entry)) arcLimit (now (order .entry)) clock (now (order .exit)) (now (trail .exit)) r ⌝ }
+    ensures { λ r. ⌜ Swept (now (ends .entry)) (now (residual .entry)) arcLimit (now (order .entry)) clock
+        (now (order .exit)) (now (trail .exit)) r ⌝ }
 {
     let mut last = clock;
     let mut arc = 0;
@@ -71,7 +74,8 @@ fn visit(
 ) -> usize
     requires { ⌜ length (now ports) ≡ arcLimit ⌝ }
     requires { ⌜ Tree (now ends) (now residual) (now order) (now trail) clock ⌝ }
-    ensures { λ r. ⌜ Grown (now (ends .entry)) (now (residual .entry)) (now (order .entry)) clock (now (order .exit)) (now (trail .exit)) r ⌝ }
+    ensures { λ r. ⌜ Grown (now (ends .entry)) (now (residual .entry)) (now (order .entry)) clock (now (order .exit))
+        (now (trail .exit)) r ⌝ }
 {
     let first = PORTS * (vertex as usize);
     let mut last = clock;
@@ -84,7 +88,8 @@ fn visit(
     last
 }
 
-// The vertex to visit under a number: the sources under 0 and 1, and from 2 on the vertex that was reached by that number.
+// The vertex to visit under a number: the sources under 0 and 1,
+// and from 2 on the vertex that was reached by that number.
 fn numbered(ends: &[u8], trail: &[u16], sources: Pair, number: usize) -> u8
     requires { ⌜ length (now ends) ≡ arcLimit ⌝ }
     requires { ⌜ number < length (now trail) ⌝ }
@@ -111,7 +116,8 @@ pub fn search(
 ) -> Found
     requires { ⌜ length (now ports) ≡ arcLimit ⌝ }
     requires { ⌜ Tree (now ends) (now residual) (now order) (now trail) 1 ⌝ }
-    ensures { λ r. ⌜ Searched (now (ends .entry)) (now (residual .entry)) sinks (now (order .entry)) (now (order .exit)) (now (trail .exit)) r ⌝ }
+    ensures { λ r. ⌜ Searched (now (ends .entry)) (now (residual .entry)) sinks (now (order .entry)) (now (order .exit))
+        (now (trail .exit)) r ⌝ }
 {
     let first = sinks.first as usize;
     let second = sinks.second as usize;

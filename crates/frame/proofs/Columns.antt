@@ -11,11 +11,13 @@ use lib.Seq.{take-add, drop-drop, length-take-le}
 use Rattle.frame.specs.Table.{total}
 use Rattle.frame.specs.Digits.{allDigits, numberOf, spell}
 use Rattle.frame.specs.Line.{spellAll, valuesOf, FitAll}
-use Rattle.frame.proofs.Below.{both-left, both-right}
-use Rattle.frame.proofs.Spelling.{spell-append, length-spell, drop-spell, take-spell, digits-spell, number-spell, spell-number, number-lt, digits-append}
+use Rattle.base.proofs.Bools.{and-left, and-right}
+use Rattle.frame.proofs.Spelling.{spell-append, length-spell, drop-spell, take-spell, digits-spell, number-spell}
+use Rattle.frame.proofs.Spelling.{spell-number, number-lt, digits-append}
 
 -- digits in two parts of a text
-pub digits-parts : (d n : ℕ) (t : List ℕ) → allDigits (take (d + n) t) ≡ (allDigits (take d t) && allDigits (take n (drop d t)))
+pub digits-parts : (d n : ℕ) (t : List ℕ)
+    → allDigits (take (d + n) t) ≡ (allDigits (take d t) && allDigits (take n (drop d t)))
 digits-parts d n t = ap allDigits (take-add d n t) ∙ digits-append (take d t) (take n (drop d t))
 
 pub spell-all-append : (ds vs s rest : List ℕ) → spellAll ds vs (s ++ rest) ≡ spellAll ds vs s ++ rest
@@ -27,7 +29,8 @@ spell-all-append (d ∷ ds) (v ∷ vs) s rest =
 
 -- as many numbers as counts of digits
 module _ (rest : List ℕ) where
-  pub length-spell-all : (ds vs : List ℕ) → length ds ≡ length vs → length (spellAll ds vs rest) ≡ total ds + length rest
+  pub length-spell-all : (ds vs : List ℕ) → length ds ≡ length vs
+      → length (spellAll ds vs rest) ≡ total ds + length rest
   unfolding spellAll total
   length-spell-all [] vs e = omega arith
   length-spell-all (d ∷ ds) [] e = absurd (omega arith)
@@ -42,7 +45,8 @@ module _ (rest : List ℕ) where
       sym (drop-drop (total ds) d (spell d v (spellAll ds vs rest)))
       ∙ rw (drop-spell d v (spellAll ds vs rest)) (drop-spell-all ds vs (omega arith))
 
-  pub digits-spell-all : (ds vs : List ℕ) → length ds ≡ length vs → allDigits (take (total ds) (spellAll ds vs rest)) ≡ true
+  pub digits-spell-all : (ds vs : List ℕ) → length ds ≡ length vs
+      → allDigits (take (total ds) (spellAll ds vs rest)) ≡ true
   unfolding spellAll total allDigits
   digits-spell-all [] vs e = refl
   digits-spell-all (d ∷ ds) [] e = absurd (omega arith)
@@ -62,7 +66,8 @@ module _ (rest : List ℕ) where
       rw (take-spell d v (spellAll ds vs rest), e, drop-spell d v (spellAll ds vs rest), values-found ds vs (f .1))
 
 -- digits that were read are spelt
-respelt : (d : ℕ) (t : List ℕ) → d ≤ length t → allDigits (take d t) ≡ true → spell d (numberOf 0 (take d t)) (drop d t) ≡ t
+respelt : (d : ℕ) (t : List ℕ) → d ≤ length t → allDigits (take d t) ≡ true
+    → spell d (numberOf 0 (take d t)) (drop d t) ≡ t
 unfolding spell
 respelt d t h x =
     ap (λ (k : ℕ). spell k (numberOf 0 (take d t)) (drop d t)) (sym (length-take-le d t h) ∙ sym (zero-add _))
@@ -80,22 +85,24 @@ module _ (d : ℕ) (ds t : List ℕ) (h : d + total ds ≤ length t) (x : allDig
   parted = sym (digits-parts d (total ds) t) ∙ x
 
   first-digits : allDigits (take d t) ≡ true
-  first-digits = both-left (allDigits (take d t)) (allDigits (take (total ds) (drop d t))) parted
+  first-digits = and-left (allDigits (take d t)) (allDigits (take (total ds) (drop d t))) parted
 
   later-digits : allDigits (take (total ds) (drop d t)) ≡ true
-  later-digits = both-right (allDigits (take d t)) (allDigits (take (total ds) (drop d t))) parted
+  later-digits = and-right (allDigits (take d t)) (allDigits (take (total ds) (drop d t))) parted
 
   later-long : total ds ≤ length (drop d t)
   later-long = omega (arith, length-drop d t)
 
-pub values-back : (ds t : List ℕ) → total ds ≤ length t → allDigits (take (total ds) t) ≡ true → spellAll ds (valuesOf ds t) (drop (total ds) t) ≡ t
+pub values-back : (ds t : List ℕ) → total ds ≤ length t → allDigits (take (total ds) t) ≡ true
+    → spellAll ds (valuesOf ds t) (drop (total ds) t) ≡ t
 unfolding spellAll valuesOf total
 values-back [] t h x = refl
 values-back (d ∷ ds) t h x =
     rw (← drop-drop (total ds) d t, values-back ds (drop d t) (later-long d ds t h x) (later-digits d ds t h x))
     (respelt d t (omega arith) (first-digits d ds t h x))
 
-pub values-fit : (ds t : List ℕ) → total ds ≤ length t → allDigits (take (total ds) t) ≡ true → FitAll ds (valuesOf ds t)
+pub values-fit : (ds t : List ℕ) → total ds ≤ length t → allDigits (take (total ds) t) ≡ true
+    → FitAll ds (valuesOf ds t)
 unfolding valuesOf total
 values-fit [] t h x = tt
 values-fit (d ∷ ds) t h x = (

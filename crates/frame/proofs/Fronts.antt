@@ -16,13 +16,15 @@ module _ (row : ℕ) (s rest : List ℕ) where
   -- a text that starts with a line, and has more behind it
   module _ (i : isLine row s ≡ true) where
     longer : lineOf row (fieldsOf row s) ++ (drop (lineLength row) s ++ rest) ≡ s ++ rest
-    longer = sym (append-assoc (lineOf row (fieldsOf row s)) (drop (lineLength row) s) rest) ∙ ap (λ t. t ++ rest) (line-back row s i)
+    longer = sym (append-assoc (lineOf row (fieldsOf row s)) (drop (lineLength row) s) rest)
+        ∙ ap (λ t. t ++ rest) (line-back row s i)
 
     line-more : isLine row (s ++ rest) ≡ true
     line-more = rw (← longer) (line-is row (fieldsOf row s) (drop (lineLength row) s ++ rest))
 
     pub fields-front : fieldsOf row (s ++ rest) ≡ fieldsOf row s
-    fields-front = ap (fieldsOf row) (sym longer) ∙ fields-found row (fieldsOf row s) (drop (lineLength row) s ++ rest) (line-fits row s i)
+    fields-front = ap (fieldsOf row) (sym longer)
+        ∙ fields-found row (fieldsOf row s) (drop (lineLength row) s ++ rest) (line-fits row s i)
 
   module _ (long : lineLength row ≤ length s) where
     line-less : isLine row (s ++ rest) ≡ true → isLine row s ≡ true
@@ -32,7 +34,8 @@ module _ (row : ℕ) (s rest : List ℕ) where
         sym (take-append-le (lineLength row) s rest long)
         ∙ ap (take (lineLength row)) (sym (line-back row (s ++ rest) i))
         ∙ take-at (lineOf row f) (drop (lineLength row) (s ++ rest)) (lineLength row) (length-line row f) in
-        let e : lineOf row f ++ drop (lineLength row) s ≡ s = ap (λ t. t ++ drop (lineLength row) s) (sym first) ∙ take-append-drop (lineLength row) s in
+        let e : lineOf row f ++ drop (lineLength row) s ≡ s =
+        ap (λ t. t ++ drop (lineLength row) s) (sym first) ∙ take-append-drop (lineLength row) s in
         rw e at (line-is row f (drop (lineLength row) s))
 
     pub line-front : isLine row (s ++ rest) ≡ isLine row s
@@ -51,7 +54,8 @@ frames-front [] (c ∷ s) rest h = refl
 frames-front (row ∷ due) s rest h =
     rw (line-front row s rest (omega arith))
     (go (isLine row s) refl
-    (rw (drop-append-le (lineLength row) s rest (omega arith)) (frames-front due (drop (lineLength row) s) rest (omega (arith, length-drop (lineLength row) s)))))
+    (rw (drop-append-le (lineLength row) s rest (omega arith))
+    (frames-front due (drop (lineLength row) s) rest (omega (arith, length-drop (lineLength row) s)))))
   where
     go : (b : Bool) → isLine row s ≡ b
         → framesOf due (drop (lineLength row) (s ++ rest)) ≡ framesOf due (drop (lineLength row) s)

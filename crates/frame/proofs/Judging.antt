@@ -7,7 +7,8 @@ use Prim.Native.Nat.{ℕ, _+_, _≤_, _<_}
 use native.Mathlib.Omega.{arith}
 use lib.ListN.{length, take, drop, getD, length-drop}
 use borrow.Author.Tests.{le-leb, eq-eqb}
-use Rattle.frame.specs.Answer.{refused, FORM}
+use Rattle.base.specs.Answer.{refused}
+use Rattle.base.specs.Refusals.{FORM}
 use Rattle.frame.specs.Table.{fields, kindOf, widths, total, startOf, lineLength}
 use Rattle.frame.specs.Digits.{allDigits, numberOf, numberIn}
 use Rattle.frame.specs.Line.{FEED, kindDigits, isLine, lineAt, readLine, fieldsLine}
@@ -38,11 +39,13 @@ module _ (row : ℕ) (line : List ℕ) (next : ℕ) where
     line-no-feed n = line-refused (λ s. n (ap (λ (k : ℕ). getD line k 0) p ∙ s .feed))
 
   -- the digits of the kind, and of the fields
-  kind-parted : allDigits (take (startOf row fields) line) ≡ (allDigits (take kindDigits line) && allDigits (take (total (widths row)) (drop kindDigits line)))
+  kind-parted : allDigits (take (startOf row fields) line)
+      ≡ (allDigits (take kindDigits line) && allDigits (take (total (widths row)) (drop kindDigits line)))
   kind-parted = rw (start-end row) (digits-parts kindDigits (total (widths row)) line)
 
   pub line-no-number : Broken ≡ numberIn (take kindDigits line) → refused FORM ≡ lineAt row line next
-  line-no-number b = line-refused (λ s. false≢true (rw (kind-parted, number-broken (take kindDigits line) b) at (s .digits)))
+  line-no-number b = line-refused
+      (λ s. false≢true (rw (kind-parted, number-broken (take kindDigits line) b) at (s .digits)))
 
   module _ (k : ℕ) (n : Spelt k ≡ numberIn (take kindDigits line)) where
     pub line-no-kind : (k ≡ kindOf row → ⊥) → refused FORM ≡ lineAt row line next
@@ -65,4 +68,5 @@ module _ (row : ℕ) (line : List ℕ) (next : ℕ) where
 
 pub read-past : (row at : ℕ) (text : List ℕ) → length text < at → refused FORM ≡ readLine row text at
 unfolding readLine lineLength
-read-past row at text h = line-refused row (drop at text) (at + lineLength row) (λ s. omega (arith, s .long, length-drop at text))
+read-past row at text h =
+    line-refused row (drop at text) (at + lineLength row) (λ s. omega (arith, s .long, length-drop at text))

@@ -11,14 +11,16 @@ use lib.Dec.{leb, eqb}
 use lib.ListN.{length, take, drop, getD, length-append, drop-of-length-le}
 use lib.Seq.{drop-at, drop-cons, getD-drop}
 use borrow.Author.Tests.{le-leb, eq-eqb, leb-true, eqb-true}
-use Rattle.frame.specs.Answer.{over}
+use Rattle.base.specs.Answer.{over}
 use Rattle.frame.specs.Table.{fields, kindOf, widths, total, startOf, lineLength}
 use Rattle.frame.specs.Digits.{allDigits, numberOf, spell}
-use Rattle.frame.specs.Line.{FEED, kindDigits, listOf, fieldsFrom, spellAll, valuesOf, lineOf, fieldsOf, isLine, Fits}
+use Rattle.frame.specs.Line.{FEED, kindDigits, listOf, fieldsFrom, spellAll, valuesOf, lineOf, fieldsOf, isLine}
+use Rattle.frame.specs.Line.{Fits}
 use Rattle.frame.specs.declared.line.Fields.{Fields}
-use Rattle.frame.proofs.Below.{both-left, both-right}
+use Rattle.base.proofs.Bools.{and-left, and-right}
 use Rattle.frame.proofs.Spelling.{number-spell, take-spell, drop-spell}
-use Rattle.frame.proofs.Columns.{spell-all-append, length-spell-all, drop-spell-all, digits-spell-all, values-found, values-back, values-fit, length-values}
+use Rattle.frame.proofs.Columns.{spell-all-append, length-spell-all, drop-spell-all, digits-spell-all}
+use Rattle.frame.proofs.Columns.{values-found, values-back, values-fit, length-values}
 use Rattle.frame.proofs.Rows.{length-widths, start-end, kind-small}
 
 -- what the tests of a line say
@@ -36,13 +38,13 @@ module _ (row : ℕ) (t : List ℕ) where
       let d = allDigits (take (startOf row fields) t) in
       let f = eqb (getD t (startOf row fields) 0) FEED in
       let l = leb (lineLength row) (length t) in
-      let e₂ : (f && (d && k)) ≡ true = both-right l (f && (d && k)) e in
-      let e₃ : (d && k) ≡ true = both-right f (d && k) e₂ in
+      let e₂ : (f && (d && k)) ≡ true = and-right l (f && (d && k)) e in
+      let e₃ : (d && k) ≡ true = and-right f (d && k) e₂ in
       record {
-        long = leb-true _ _ (both-left l (f && (d && k)) e);
-        feed = eqb-true _ _ (both-left f (d && k) e₂);
-        digits = both-left d k e₃;
-        kind = eqb-true _ _ (both-right d k e₃);
+        long = leb-true _ _ (and-left l (f && (d && k)) e);
+        feed = eqb-true _ _ (and-left f (d && k) e₂);
+        digits = and-left d k e₃;
+        kind = eqb-true _ _ (and-right d k e₃);
       }
 
   pub is-line : Formed row t → isLine row t ≡ true
@@ -70,14 +72,16 @@ module _ (row : ℕ) where
     same-count : length (kindDigits ∷ widths row) ≡ length (kindOf row ∷ listOf f)
     same-count = ap suc (length-widths row)
 
-    pub line-before : (rest : List ℕ) → lineOf row f ++ rest ≡ spellAll (kindDigits ∷ widths row) (kindOf row ∷ listOf f) (FEED ∷ rest)
+    pub line-before : (rest : List ℕ)
+        → lineOf row f ++ rest ≡ spellAll (kindDigits ∷ widths row) (kindOf row ∷ listOf f) (FEED ∷ rest)
     unfolding lineOf
     line-before rest = sym (spell-all-append (kindDigits ∷ widths row) (kindOf row ∷ listOf f) (FEED ∷ []) rest)
 
     pub length-line : length (lineOf row f) ≡ lineLength row
     unfolding lineOf lineLength total
     length-line =
-        length-spell-all (FEED ∷ []) (kindDigits ∷ widths row) (kindOf row ∷ listOf f) same-count ∙ omega (arith, start-end row)
+        length-spell-all (FEED ∷ []) (kindDigits ∷ widths row) (kindOf row ∷ listOf f) same-count
+        ∙ omega (arith, start-end row)
 
     -- a line in front of what stood behind it is the line over what stood there
     pub line-over : (old : List ℕ) → lineOf row f ++ drop (lineLength row) old ≡ over (lineOf row f) old
@@ -90,19 +94,23 @@ module _ (row : ℕ) where
     behind : (rest : List ℕ) → drop (startOf row fields) (lineOf row f ++ rest) ≡ FEED ∷ rest
     unfolding total
     behind rest =
-        rw (start-end row, line-before rest) (drop-spell-all (FEED ∷ rest) (kindDigits ∷ widths row) (kindOf row ∷ listOf f) same-count)
+        rw (start-end row, line-before rest)
+        (drop-spell-all (FEED ∷ rest) (kindDigits ∷ widths row) (kindOf row ∷ listOf f) same-count)
 
     pub line-is : (rest : List ℕ) → isLine row (lineOf row f ++ rest) ≡ true
     unfolding spellAll total numberOf lineLength
     line-is rest =
         let t = lineOf row f ++ rest in
-        let e : take kindDigits t ≡ spell kindDigits (kindOf row) [] = ap (take kindDigits) (line-before rest) ∙ take-spell kindDigits (kindOf row) _ in
+        let e : take kindDigits t ≡ spell kindDigits (kindOf row) [] =
+        ap (take kindDigits) (line-before rest) ∙ take-spell kindDigits (kindOf row) _ in
         is-line row t
         (record {
           long = omega (arith, length-append (lineOf row f) rest, length-line);
-          feed = sym (getD-drop (startOf row fields) t 0 0 ∙ ap (λ (k : ℕ). getD t k 0) (add-zero _)) ∙ ap (λ (s : List ℕ). getD s 0 0) (behind rest);
+          feed = sym (getD-drop (startOf row fields) t 0 0 ∙ ap (λ (k : ℕ). getD t k 0) (add-zero _))
+              ∙ ap (λ (s : List ℕ). getD s 0 0) (behind rest);
           digits =
-              rw (start-end row, line-before rest) (digits-spell-all (FEED ∷ rest) (kindDigits ∷ widths row) (kindOf row ∷ listOf f) same-count);
+              rw (start-end row, line-before rest)
+              (digits-spell-all (FEED ∷ rest) (kindDigits ∷ widths row) (kindOf row ∷ listOf f) same-count);
           kind = ap (numberOf 0) e ∙ number-spell kindDigits 0 (kindOf row) [] (kind-small row) ∙ omega arith;
         })
 
@@ -112,7 +120,8 @@ module _ (row : ℕ) where
     fields-found rest x =
         ap fieldsFrom
         (ap (λ (t : List ℕ). valuesOf (widths row) (drop kindDigits t)) (line-before rest)
-        ∙ ap (valuesOf (widths row)) (drop-spell kindDigits (kindOf row) (spellAll (widths row) (listOf f) (FEED ∷ rest)))
+        ∙ ap (valuesOf (widths row))
+        (drop-spell kindDigits (kindOf row) (spellAll (widths row) (listOf f) (FEED ∷ rest)))
         ∙ values-found (FEED ∷ rest) (widths row) (listOf f) x)
 
   -- no other text has the meaning of a line, and what is read has room in it
@@ -127,7 +136,8 @@ module _ (row : ℕ) where
 
     read-list : listOf (fieldsOf row t) ≡ valuesOf (widths row) (drop kindDigits t)
     unfolding fieldsOf
-    read-list = list-fields (valuesOf (widths row) (drop kindDigits t)) (length-values (widths row) (drop kindDigits t) ∙ length-widths row)
+    read-list = list-fields (valuesOf (widths row) (drop kindDigits t))
+        (length-values (widths row) (drop kindDigits t) ∙ length-widths row)
 
     pub line-back : lineOf row (fieldsOf row t) ++ drop (lineLength row) t ≡ t
     unfolding lineLength total valuesOf

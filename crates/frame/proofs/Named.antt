@@ -8,9 +8,12 @@ use lib.Dec.{lit<}
 use lib.ListN.{length, take, getD, length-map, List·getD-map}
 use lib.Seq.{take-nil}
 use lib.Signed.{mag}
-use Rattle.frame.specs.Table.{table, fields, padded, bytesOf, widths, digitsOf, HEAD, EDGE, STEP, DROPPED, KEPT, COSTS, REFUSAL}
+use Rattle.frame.specs.Table.{table, fields, padded, bytesOf, widths, digitsOf, HEAD, EDGE, STEP, DROPPED, KEPT}
+use Rattle.frame.specs.Table.{COSTS, REFUSAL}
 use Rattle.frame.specs.Line.{listOf, fieldsFrom, FitAll, Fits}
-use Rattle.frame.specs.Kinds.{headOf, ofHead, costDigits, edgeOf, ofEdge, stepOf, ofStep, droppedOf, ofDropped, keptOf, ofKept, keptDigits, unreservedDigits, costsOf, ofCosts, refusalOf, ofRefusal}
+use Rattle.frame.specs.Kinds.{headOf, ofHead, costDigits, edgeOf, ofEdge, stepOf, ofStep, droppedOf, ofDropped}
+use Rattle.frame.specs.Kinds.{keptOf, ofKept, keptDigits, unreservedDigits, costsOf, ofCosts, refusalIn}
+use Rattle.frame.specs.Kinds.{ofRefusal}
 use Rattle.frame.specs.declared.line.Fields.{Fields}
 use Rattle.frame.specs.declared.kinds.Edge.{Edge}
 use Rattle.frame.specs.declared.kinds.Costs.{Costs}
@@ -25,7 +28,8 @@ fit-at (d ∷ ds) (v ∷ vs) f zero h = f .0
 fit-at (d ∷ ds) (v ∷ vs) f (suc k) h = fit-at ds vs (f .1) k (omega arith)
 
 -- what the table has no field for is 0
-absent : (n : ℕ) (bytes vs : List ℕ) → FitAll (map (λ b. 2 * b) (padded n bytes)) vs → (k : ℕ) → getD (take (length bytes) vs) k 0 ≡ getD vs k 0
+absent : (n : ℕ) (bytes vs : List ℕ) → FitAll (map (λ b. 2 * b) (padded n bytes)) vs → (k : ℕ)
+    → getD (take (length bytes) vs) k 0 ≡ getD vs k 0
 unfolding padded
 absent zero bytes [] f k = rw take-nil
 absent zero bytes (v ∷ vs) f k = absurd f
@@ -41,7 +45,8 @@ module _ (row : ℕ) (f : Fields) (x : Fits row f) where
   unfolding Fits widths digitsOf
   fits-at k h =
       rw (← List·getD-map (λ n. 2 * n) (bytesOf row) k 0)
-      (fit-at (map (λ n. 2 * n) (bytesOf row)) (listOf f) x k (omega (arith, length-map (bytesOf row) (λ n. 2 * n), length-bytes row)))
+      (fit-at (map (λ n. 2 * n) (bytesOf row)) (listOf f) x k
+      (omega (arith, length-map (bytesOf row) (λ n. 2 * n), length-bytes row)))
 
   present : fieldsFrom (take (length (getD table row (0, []) .1)) (listOf f)) ≡ f
   unfolding Fits widths bytesOf
@@ -62,7 +67,7 @@ dropped-back = present DROPPED
 pub kept-back : (f : Fields) → Fits KEPT f → ofKept (keptOf f) ≡ f
 kept-back = present KEPT
 
-pub refusal-back : (f : Fields) → Fits REFUSAL f → ofRefusal (refusalOf f) ≡ f
+pub refusal-back : (f : Fields) → Fits REFUSAL f → ofRefusal (refusalIn f) ≡ f
 refusal-back = present REFUSAL
 
 pub edge-back : (f : Fields) → Fits EDGE f → ofEdge (edgeOf f) ≡ f
@@ -78,12 +83,14 @@ costs-back f x =
     )
     (present COSTS f x)
 
--- a frame with named fields is found again in its fields: without signed fields by computation, and with them where they have room
+-- a frame with named fields is found again in its fields: without
+-- signed fields by computation, and with them where they have room
 pub edge-found : (e : Edge) → 2 * mag (e .cost) < 16 ^ costDigits → edgeOf (ofEdge e) ≡ e
 unfolding costDigits digitsOf bytesOf padded
 edge-found e h = rw (signed-unsigned costDigits (e .cost) (lit< tt) h)
 
-pub costs-found : (c : Costs) → 2 * mag (c .kept) < 16 ^ keptDigits → 2 * mag (c .unreserved) < 16 ^ unreservedDigits → costsOf (ofCosts c) ≡ c
+pub costs-found : (c : Costs) → 2 * mag (c .kept) < 16 ^ keptDigits → 2 * mag (c .unreserved) < 16 ^ unreservedDigits
+    → costsOf (ofCosts c) ≡ c
 unfolding keptDigits unreservedDigits digitsOf bytesOf padded
 costs-found c h l =
     rw (signed-unsigned keptDigits (c .kept) (lit< tt) h, signed-unsigned unreservedDigits (c .unreserved) (lit< tt) l)

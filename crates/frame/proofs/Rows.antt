@@ -11,9 +11,11 @@ use lib.Dec.{leb, ltb}
 use lib.ListN.{length, take, drop, getD, length-map, drop-of-length-le, List·getD-map, List·getD-eq-default}
 use lib.Seq.{drop-cons, take-all, take-nil}
 use borrow.Author.Tests.{ltb-true, leb-true}
-use Rattle.frame.specs.Table.{table, rows, fields, columns, kindOf, padded, bytesOf, total, placeOf, entryOf, startOf, digitsOf, widths}
-use Rattle.frame.specs.Digits.{upTo}
-use Rattle.frame.proofs.Below.{below², up-to-at}
+use Rattle.frame.specs.Digits.{byteValues}
+use Rattle.frame.specs.Table.{table, rows, fields, columns, kindOf, padded, bytesOf, total, placeOf, entryOf}
+use Rattle.frame.specs.Table.{startOf, digitsOf, widths}
+use Rattle.base.specs.Fold.{fold, tabulate}
+use Rattle.base.proofs.Sums.{each-each-at, tabulate-at}
 
 -- sums
 total-next : (ns : List ℕ) (k : ℕ) → total (take (suc k) ns) ≡ total (take k ns) + getD ns k 0
@@ -70,7 +72,8 @@ module _ (row : ℕ) where
   pub widths-next : (k : ℕ) → k < fields → drop k (widths row) ≡ digitsOf row k ∷ drop (k + 1) (widths row)
   unfolding digitsOf widths
   widths-next k h =
-      let l : k < length (map (λ n. 2 * n) (bytesOf row)) = omega (arith, length-map (bytesOf row) (λ n. 2 * n), length-bytes) in
+      let l : k < length (map (λ n. 2 * n) (bytesOf row)) =
+      omega (arith, length-map (bytesOf row) (λ n. 2 * n), length-bytes) in
       rw (add-one, ← List·getD-map (λ n. 2 * n) (bytesOf row) k 0) (drop-cons (map (λ n. 2 * n) (bytesOf row)) k 0 l)
 
   pub widths-end : (k : ℕ) → fields ≤ k → drop k (widths row) ≡ []
@@ -78,26 +81,26 @@ module _ (row : ℕ) where
 
 -- what holds of every row, by a test at each entry
 small : ℕ → ℕ → Bool
-small row column = ltb (entryOf row column) 256
+small row column = ltb (entryOf row column) byteValues
 
 narrow : ℕ → ℕ → Bool
 narrow row k = leb (digitsOf row k) 16
 
 module _ (row : ℕ) (h : row < rows) where
-  pub entry-small : (column : ℕ) → column < columns → entryOf row column < 256
-  unfolding small entryOf kindOf placeOf bytesOf padded total
-  entry-small column l = ltb-true _ _ (below² small rows columns refl row column h l)
+  pub entry-small : (column : ℕ) → column < columns → entryOf row column < byteValues
+  unfolding fold small entryOf kindOf placeOf bytesOf padded total
+  entry-small column l = ltb-true _ _ (each-each-at small rows columns refl row column h l)
 
   pub digits-narrow : (k : ℕ) → k < fields → digitsOf row k ≤ 16
-  unfolding narrow digitsOf bytesOf padded
-  digits-narrow k l = leb-true _ _ (below² narrow rows fields refl row k h l)
+  unfolding fold narrow digitsOf bytesOf padded
+  digits-narrow k l = leb-true _ _ (each-each-at narrow rows fields refl row k h l)
 
-  pub start-small : (k : ℕ) → k ≤ fields → startOf row k < 512
+  pub start-small : (k : ℕ) → k ≤ fields → startOf row k < 2 * byteValues
   unfolding startOf entryOf
   start-small k l = omega (arith, entry-small (suc k) (omega arith))
 
 -- a kind is one byte; a row that the table does not have has kind 0
-pub kind-small : (row : ℕ) → kindOf row < 256
+pub kind-small : (row : ℕ) → kindOf row < byteValues
 unfolding entryOf kindOf
 kind-small row =
     elim (decLt row rows) [
@@ -112,7 +115,8 @@ pub record Field (row k start end : ℕ) : Type 0 where
   pub count : end - start ≡ digitsOf row k
   pub narrow : digitsOf row k ≤ 16
 
-pub field-at : (row k start end : ℕ) → row < rows → k < fields → start ≡ startOf row k → end ≡ startOf row (k + 1) → Field row k start end
+pub field-at : (row k start end : ℕ) → row < rows → k < fields → start ≡ startOf row k → end ≡ startOf row (k + 1)
+    → Field row k start end
 field-at row k start end h l p q =
     let n = start-next row k in
     record {
@@ -128,11 +132,12 @@ start-entry row k = rw add-one
 
 -- the whole table as the code lays it out
 unfoldable pub laidOut : List (List ℕ)
-unfolding upTo entryOf kindOf placeOf bytesOf padded total
-laidOut = upTo rows (λ row. upTo columns (entryOf row))
+unfolding tabulate entryOf kindOf placeOf bytesOf padded total
+laidOut = tabulate rows (λ row. tabulate columns (entryOf row))
 
-pub laid-entry : (row column : ℕ) → row < rows → column < columns → getD (getD laidOut row []) column 0 ≡ entryOf row column
+pub laid-entry : (row column : ℕ) → row < rows → column < columns
+    → getD (getD laidOut row []) column 0 ≡ entryOf row column
 unfolding laidOut
 laid-entry row column h l =
-    ap (λ (r : List ℕ). getD r column 0) (up-to-at rows (λ i. upTo columns (entryOf i)) [] row h)
-    ∙ up-to-at columns (entryOf row) 0 column l
+    ap (λ (r : List ℕ). getD r column 0) (tabulate-at rows (λ i. tabulate columns (entryOf i)) [] row h)
+    ∙ tabulate-at columns (entryOf row) 0 column l

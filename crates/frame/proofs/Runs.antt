@@ -9,7 +9,9 @@ use native.Mathlib.Numerals.{add-one}
 use native.Mathlib.Nat.{zero-div, add-div-left}
 use lib.ListN.{length, drop, getD, replicate, length-drop, drop-of-length-le}
 use lib.Seq.{drop-cons, drop-drop}
-use Rattle.frame.specs.Answer.{Answer, refused, answer, FORM}
+use Rattle.base.proofs.Bools.{no-answer}
+use Rattle.base.specs.Answer.{Answer, refused, answer}
+use Rattle.base.specs.Refusals.{FORM}
 use Rattle.frame.specs.Table.{lineLength}
 use Rattle.frame.specs.Line.{Placed, placed, answerOf, fieldsOf, isLine, lineAt, readLine, Fits}
 use Rattle.frame.specs.Frames.{done, broken, frame, framesOf, framesToEnd}
@@ -36,7 +38,9 @@ module _ (row at : ℕ) (text : List ℕ) where
   next-read f next e = go (isLine row (drop at text)) refl e
     where
       go : (b : Bool) → isLine row (drop at text) ≡ b
-          → answer (placed f next) ≡ cond b (answer (placed (fieldsOf row (drop at text)) (at + lineLength row))) (refused FORM) → Next row at text f next
+          → answer (placed f next)
+          ≡ cond b (answer (placed (fieldsOf row (drop at text)) (at + lineLength row))) (refused FORM)
+          → Next row at text f next
       go true i e =
           let p : f ≡ fieldsOf row (drop at text) = cc in
           let q : next ≡ at + lineLength row = cc in
@@ -49,20 +53,22 @@ module _ (row at : ℕ) (text : List ℕ) where
             within = omega (arith, length-drop at text);
             fits = rw p (line-fits row (drop at text) i);
           }
-      go false i e = let z : _≡_ {A = ℕ} 0 1 = cc in absurd (omega arith)
+      go false i e = no-answer (cc)
 
   pub none-read : refused FORM ≡ readLine row text at → isLine row (drop at text) ≡ false
   unfolding readLine lineAt
   none-read e = go (isLine row (drop at text)) refl e
     where
       go : (b : Bool) → isLine row (drop at text) ≡ b
-          → refused FORM ≡ cond b (answer (placed (fieldsOf row (drop at text)) (at + lineLength row))) (refused FORM) → isLine row (drop at text) ≡ false
-      go true i e = let z : _≡_ {A = ℕ} 0 1 = cc in absurd (omega arith)
+          → refused FORM ≡ cond b (answer (placed (fieldsOf row (drop at text)) (at + lineLength row))) (refused FORM)
+          → isLine row (drop at text) ≡ false
+      go true i e = no-answer (cc)
       go false i e = i
 
   -- the frames from a place on, by what is read there
   module _ (due : List ℕ) where
-    frames-next : (f : Fields) (next : ℕ) → Next row at text f next → framesOf (row ∷ due) (drop at text) ≡ frame f (framesOf due (drop next text))
+    frames-next : (f : Fields) (next : ℕ) → Next row at text f next
+        → framesOf (row ∷ due) (drop at text) ≡ frame f (framesOf due (drop next text))
     unfolding framesOf
     frames-next f next x = rw (x .is, x .fields, x .place, drop-drop)
 
@@ -86,7 +92,8 @@ module _ (due text : List ℕ) (i at : ℕ) where
     due-next : drop i due ≡ row ∷ drop (i + 1) due
     due-next = drop-cons due i 0 h ∙ rw (add-one, e)
 
-    pub run-next : (f : Fields) (next : ℕ) → Next row at text f next → framesOf (drop i due) (drop at text) ≡ frame f (framesOf (drop (i + 1) due) (drop next text))
+    pub run-next : (f : Fields) (next : ℕ) → Next row at text f next
+        → framesOf (drop i due) (drop at text) ≡ frame f (framesOf (drop (i + 1) due) (drop next text))
     run-next f next x = rw due-next (frames-next row at text (drop (i + 1) due) f next x)
 
     pub run-broken : refused FORM ≡ readLine row text at → framesOf (drop i due) (drop at text) ≡ broken
@@ -101,13 +108,15 @@ module _ (due text : List ℕ) (i at : ℕ) where
 
 -- the same of one kind up to the end
 module _ (row at : ℕ) (text : List ℕ) where
-  pub end-next : (f : Fields) (next : ℕ) → Next row at text f next → framesToEnd row (drop at text) ≡ frame f (framesToEnd row (drop next text))
+  pub end-next : (f : Fields) (next : ℕ) → Next row at text f next
+      → framesToEnd row (drop at text) ≡ frame f (framesToEnd row (drop next text))
   unfolding framesToEnd lineLength
   end-next f next x =
       let n : length (drop at text) ≡ lineLength row + length (drop next text) =
       omega (arith, length-drop at text, length-drop next text, x .place, x .within) in
       let q : length (drop at text) / lineLength row ≡ suc (length (drop next text) / lineLength row) =
-      ap (λ (m : ℕ). m / lineLength row) n ∙ add-div-left (length (drop next text)) {k = lineLength row} (omega arith) ∙ add-one _ in
+      ap (λ (m : ℕ). m / lineLength row) n ∙ add-div-left (length (drop next text)) {k = lineLength row} (omega arith)
+      ∙ add-one _ in
       rw q (frames-next row at text (replicate (length (drop next text) / lineLength row) row) f next x)
 
   pub end-broken : at < length text → refused FORM ≡ readLine row text at → framesToEnd row (drop at text) ≡ broken

@@ -28,9 +28,11 @@ half-double (suc d) h =
     let e : 4 * suc d ≡ suc (4 * suc d - 1) = omega arith in
     sym (sym (hex-pow (suc d)) ∙ ap (λ (n : ℕ). 2 ^ n) e ∙ rw pow-suc (omega arith))
 
-pub half : (d : ℕ) → 0 < d → d ≤ 16 → (2 * (1 * 2 ^ (4 * d - 1) % 2 ^ 64) ≡ 16 ^ d) × (1 * 2 ^ (4 * d - 1) % 2 ^ 64 ≤ 2 ^ 63)
+pub half : (d : ℕ) → 0 < d → d ≤ 16
+    → (2 * (1 * 2 ^ (4 * d - 1) % 2 ^ 64) ≡ 16 ^ d) × (1 * 2 ^ (4 * d - 1) % 2 ^ 64 ≤ 2 ^ 63)
 half d h l =
-    let e : 1 * 2 ^ (4 * d - 1) % 2 ^ 64 ≡ 2 ^ (4 * d - 1) = rw one-mul (mod-eq-of-lt (pow-lt {i = 4 * d - 1} {j = 64} (omega arith))) in
+    let e : 1 * 2 ^ (4 * d - 1) % 2 ^ 64 ≡ 2 ^ (4 * d - 1) =
+    rw one-mul (mod-eq-of-lt (pow-lt {i = 4 * d - 1} {j = 64} (omega arith))) in
     (rw e (half-double d h), rw e (pow-mono {i = 4 * d - 1} {j = 63} (omega arith)))
 
 -- each direction undoes the other: on a number that d digits spell, and on a signed number that they have room for

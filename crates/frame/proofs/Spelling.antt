@@ -6,7 +6,8 @@ use mathlib.Core.List.{List, [], _∷_, _++_}
 use Prim.Native.Nat.{ℕ, zero, suc, _+_, _*_, _-_, _/_, _%_, _^_, _≤_, _<_}
 use native.Mathlib.Omega.{arith}
 use native.Mathlib.Numerals.{add-one, sub-one}
-use native.Mathlib.Nat.{pow-suc, pow-zero, add-suc, suc-add, add-zero, zero-add, mul-assoc, mul-comm, mul-one, lt-of-lt-of-le, mul-le-mul-right, pow-le-pow-right}
+use native.Mathlib.Nat.{pow-suc, pow-zero, add-suc, suc-add, add-zero, zero-add, mul-assoc, mul-comm, mul-one}
+use native.Mathlib.Nat.{lt-of-lt-of-le, mul-le-mul-right, pow-le-pow-right}
 use lib.Dec.{lit<, ltb}
 use lib.ListN.{length, take, drop, getD, set, length-set, drop-of-length-le}
 use lib.Seq.{drop-cons, drop-set-lt, getD-set-same, drop-at, take-at}
@@ -14,7 +15,7 @@ use lib.Arith.{digits-div, digits-mod}
 use borrow.Author.Tests.{le-ltb, lt-ltb, ltb-true}
 use Rattle.frame.specs.Digits.{valueOf, digitOf, allDigits, numberOf, numberIn, spell}
 use Rattle.frame.specs.declared.digits.Number.the-variants.{Spelt, Broken}
-use Rattle.frame.proofs.Below.{both-left, both-right}
+use Rattle.base.proofs.Bools.{no-answer, and-left, and-right}
 use Rattle.frame.proofs.Values.{digit-value, value-digit}
 
 pub spell-append : (d v : ℕ) (s rest : List ℕ) → spell d v (s ++ rest) ≡ spell d v s ++ rest
@@ -43,7 +44,8 @@ digits-spell (suc d) v rest =
     ∙ rw (value-digit (v % 16) (omega arith), lt-ltb (v % 16) 16 (omega arith))
 
 -- the number that was spelt is read
-pub number-spell : (d a v : ℕ) (rest : List ℕ) → v < 16 ^ d → numberOf a (spell d v rest) ≡ numberOf (a * 16 ^ d + v) rest
+pub number-spell : (d a v : ℕ) (rest : List ℕ) → v < 16 ^ d
+    → numberOf a (spell d v rest) ≡ numberOf (a * 16 ^ d + v) rest
 unfolding numberOf spell
 number-spell zero a v rest h = ap (λ (x : ℕ). numberOf x rest) (omega (arith, pow-zero 16))
 number-spell (suc d) a v rest h =
@@ -51,14 +53,15 @@ number-spell (suc d) a v rest h =
     ∙ ap (λ (x : ℕ). numberOf x rest) (rw (pow-suc, ← mul-assoc) (omega (arith, value-digit (v % 16) (omega arith))))
 
 -- the digits that were read are spelt
-pub spell-number : (s : List ℕ) (k a : ℕ) (rest : List ℕ) → allDigits s ≡ true → spell (k + length s) (numberOf a s) rest ≡ spell k a (s ++ rest)
+pub spell-number : (s : List ℕ) (k a : ℕ) (rest : List ℕ) → allDigits s ≡ true
+    → spell (k + length s) (numberOf a s) rest ≡ spell k a (s ++ rest)
 unfolding numberOf spell allDigits
 spell-number [] k a rest h = rw add-zero
 spell-number (c ∷ s) k a rest h =
-    let d : ltb (valueOf c) 16 ≡ true = both-left (ltb (valueOf c) 16) (allDigits s) h in
+    let d : ltb (valueOf c) 16 ≡ true = and-left (ltb (valueOf c) 16) (allDigits s) h in
     let l : valueOf c < 16 = ltb-true (valueOf c) 16 d in
     ap (λ (n : ℕ). spell n (numberOf (a * 16 + valueOf c) s) rest) (add-suc k (length s) ∙ sym (suc-add k (length s)))
-    ∙ spell-number s (suc k) (a * 16 + valueOf c) rest (both-right (ltb (valueOf c) 16) (allDigits s) h)
+    ∙ spell-number s (suc k) (a * 16 + valueOf c) rest (and-right (ltb (valueOf c) 16) (allDigits s) h)
     ∙ rw (digits-div a l, digits-mod a l, digit-value c d)
 
 -- what is read has room in its digits
@@ -66,8 +69,8 @@ pub number-lt : (a : ℕ) (s : List ℕ) → allDigits s ≡ true → numberOf a
 unfolding numberOf allDigits
 number-lt a [] h = omega (arith, pow-zero 16, mul-one (a + 1))
 number-lt a (c ∷ s) h =
-    let l : valueOf c < 16 = ltb-true (valueOf c) 16 (both-left (ltb (valueOf c) 16) (allDigits s) h) in
-    lt-of-lt-of-le (number-lt (a * 16 + valueOf c) s (both-right (ltb (valueOf c) 16) (allDigits s) h))
+    let l : valueOf c < 16 = ltb-true (valueOf c) 16 (and-left (ltb (valueOf c) 16) (allDigits s) h) in
+    lt-of-lt-of-le (number-lt (a * 16 + valueOf c) s (and-right (ltb (valueOf c) 16) (allDigits s) h))
     (rw (pow-suc, mul-comm (16 ^ length s) 16, ← mul-assoc) (mul-le-mul-right (16 ^ length s) (omega arith)))
 
 -- digits in two parts
@@ -76,7 +79,8 @@ unfolding allDigits
 digits-append [] t = refl
 digits-append (c ∷ s) t = go (ltb (valueOf c) 16) (digits-append s t)
   where
-    go : (b : Bool) → allDigits (s ++ t) ≡ (allDigits s && allDigits t) → (b && allDigits (s ++ t)) ≡ (b && allDigits s && allDigits t)
+    go : (b : Bool) → allDigits (s ++ t) ≡ (allDigits s && allDigits t)
+        → (b && allDigits (s ++ t)) ≡ (b && allDigits s && allDigits t)
     go true e = e
     go false e = refl
 
@@ -126,7 +130,12 @@ unfolding spell
 spell-step zero v out p h = absurd (omega arith)
 spell-step (suc k) v out p h =
     let l : k < length (set out k (digitOf (v % 16))) = simp length-set h in
-    rw (sub-one, drop-cons (set out k (digitOf (v % 16))) k 0 l, getD-set-same out k (digitOf (v % 16)) 0 h, drop-set-lt (suc k) out k (digitOf (v % 16)) (omega arith))
+    rw (
+      sub-one,
+      drop-cons (set out k (digitOf (v % 16))) k 0 l,
+      getD-set-same out k (digitOf (v % 16)) 0 h,
+      drop-set-lt (suc k) out k (digitOf (v % 16)) (omega arith),
+    )
 
 pub spell-end : (i v : ℕ) (out : List ℕ) → i ≤ 0 → spell i v (drop i out) ≡ out
 unfolding spell
@@ -138,14 +147,15 @@ pub number-is : (s : List ℕ) (v : ℕ) → Spelt v ≡ numberIn s → (allDigi
 unfolding numberIn
 number-is s v e = go (allDigits s) refl e
   where
-    go : (b : Bool) → allDigits s ≡ b → Spelt v ≡ cond b (Spelt (numberOf 0 s)) Broken → (allDigits s ≡ true) × (v ≡ numberOf 0 s)
+    go : (b : Bool) → allDigits s ≡ b → Spelt v ≡ cond b (Spelt (numberOf 0 s)) Broken
+        → (allDigits s ≡ true) × (v ≡ numberOf 0 s)
     go true d p = (d, cc)
-    go false d p = let z : _≡_ {A = ℕ} 0 1 = cc in absurd (omega arith)
+    go false d p = no-answer (cc)
 
 pub number-broken : (s : List ℕ) → Broken ≡ numberIn s → allDigits s ≡ false
 unfolding numberIn
 number-broken s e = go (allDigits s) refl e
   where
     go : (b : Bool) → allDigits s ≡ b → Broken ≡ cond b (Spelt (numberOf 0 s)) Broken → allDigits s ≡ false
-    go true d p = let z : _≡_ {A = ℕ} 0 1 = cc in absurd (omega arith)
+    go true d p = no-answer (cc)
     go false d p = d

@@ -2,15 +2,14 @@
 -- Assumes nothing.
 use mathlib.Core.Path.{_≡_, refl, sym, _∙_, ap}
 use mathlib.Core.Bool.{Bool, true, false, cond}
-use mathlib.Core.List.{List, [], _∷_, _++_, append-assoc, append-nil}
-use Prim.Native.Nat.{ℕ, zero, suc, _+_, _*_, _/_, _≤_, _<_}
+use mathlib.Core.List.{List, [], _∷_, _++_, append-assoc}
+use Prim.Native.Nat.{ℕ, zero, suc, _+_, _*_, _/_, _<_}
 use native.Mathlib.Omega.{arith}
 use native.Mathlib.Nat.{zero-mul, suc-mul, mul-div-cancel}
-use lib.ListN.{length, take, drop, getD, replicate, length-append, length-replicate}
-use lib.Seq.{drop-at}
-use Rattle.frame.specs.Answer.{answer}
+use lib.ListN.{length, drop, getD, replicate, length-append, length-replicate}
+use Rattle.base.proofs.Bools.{no-answer}
 use Rattle.frame.specs.Table.{lineLength, total}
-use Rattle.frame.specs.Line.{lineOf, fieldsOf, isLine, placed, lineAt, readLine, Fits}
+use Rattle.frame.specs.Line.{lineOf, fieldsOf, isLine, Fits}
 use Rattle.frame.specs.Frames.{broken, frame, framesOf, framesToEnd, listed, linesOf, textLength, AllFit}
 use Rattle.frame.specs.declared.line.Fields.{Fields}
 use Rattle.frame.proofs.Lines.{length-line, line-rest, line-is, fields-found, line-back, line-fits}
@@ -33,47 +32,46 @@ pub record Whole (due text : List ℕ) (fs : List Fields) : Type 0 where
 pub whole : (due text : List ℕ) (fs : List Fields) → framesOf due text ≡ listed fs → Whole due text fs
 unfolding framesOf linesOf listed
 whole [] [] [] e = record { text-is = refl; fit = tt }
-whole [] [] (f ∷ fs) e = let z : _≡_ {A = ℕ} 0 1 = cc in absurd (omega arith)
-whole [] (c ∷ t) [] e = let z : _≡_ {A = ℕ} 0 1 = cc in absurd (omega arith)
-whole [] (c ∷ t) (f ∷ fs) e = let z : _≡_ {A = ℕ} 0 1 = cc in absurd (omega arith)
+whole [] [] (f ∷ fs) e = no-answer (cc)
+whole [] (c ∷ t) [] e = no-answer (cc)
+whole [] (c ∷ t) (f ∷ fs) e = no-answer (cc)
 whole (row ∷ due) t fs e = go (isLine row t) refl fs (whole due (drop (lineLength row) t)) e
   where
     go : (b : Bool) → isLine row t ≡ b → (fs : List Fields)
-        → ((gs : List Fields) → framesOf due (drop (lineLength row) t) ≡ listed gs → Whole due (drop (lineLength row) t) gs)
-        → cond b (frame (fieldsOf row t) (framesOf due (drop (lineLength row) t))) broken ≡ listed fs → Whole (row ∷ due) t fs
-    go true i [] k e = let z : _≡_ {A = ℕ} 0 1 = cc in absurd (omega arith)
+        → ((gs : List Fields) → framesOf due (drop (lineLength row) t) ≡ listed gs
+        → Whole due (drop (lineLength row) t) gs)
+        → cond b (frame (fieldsOf row t) (framesOf due (drop (lineLength row) t))) broken ≡ listed fs
+        → Whole (row ∷ due) t fs
+    go true i [] k e = no-answer (cc)
     go true i (f ∷ gs) k e =
         let p : fieldsOf row t ≡ f = cc in
         let w = k gs (cc) in
         record { text-is = sym (line-back row t i) ∙ rw (p, w .text-is); fit = (rw p at (line-fits row t i), w .fit) }
-    go false i [] k e = let z : _≡_ {A = ℕ} 0 1 = cc in absurd (omega arith)
-    go false i (f ∷ gs) k e = let z : _≡_ {A = ℕ} 0 1 = cc in absurd (omega arith)
-
--- a line that was written is read, wherever it stands
-pub line-read : (row at : ℕ) (f : Fields) (front rest : List ℕ) → length front ≡ at → Fits row f
-    → readLine row (front ++ (lineOf row f ++ rest)) at ≡ answer (placed f (at + lineLength row))
-unfolding readLine lineAt
-line-read row at f front rest e x =
-    rw (drop-at front (lineOf row f ++ rest) at e, line-is row f rest, fields-found row f rest x)
+    go false i [] k e = no-answer (cc)
+    go false i (f ∷ gs) k e = no-answer (cc)
 
 -- frames that fit, one by one and in two parts
-pub fit-each : (row : ℕ) (fs : List Fields) (d : Fields) → ((i : ℕ) → i < length fs → Fits row (getD fs i d)) → AllFit (replicate (length fs) row) fs
+pub fit-each : (row : ℕ) (fs : List Fields) (d : Fields) → ((i : ℕ) → i < length fs → Fits row (getD fs i d))
+    → AllFit (replicate (length fs) row) fs
 fit-each row [] d h = tt
 fit-each row (f ∷ fs) d h = (h 0 (omega arith), fit-each row fs d (λ i l. h (suc i) (omega arith)))
 
-pub fit-at : (due : List ℕ) (fs : List Fields) (d : Fields) → AllFit due fs → (i : ℕ) → i < length fs → Fits (getD due i 0) (getD fs i d)
+pub fit-at : (due : List ℕ) (fs : List Fields) (d : Fields) → AllFit due fs → (i : ℕ) → i < length fs
+    → Fits (getD due i 0) (getD fs i d)
 fit-at due [] d x i h = absurd (omega arith)
 fit-at [] (f ∷ fs) d x i h = absurd x
 fit-at (row ∷ due) (f ∷ fs) d x zero h = x .0
 fit-at (row ∷ due) (f ∷ fs) d x (suc i) h = fit-at due fs d (x .1) i (omega arith)
 
-pub fit-append : (due more : List ℕ) (fs gs : List Fields) → AllFit due fs → AllFit more gs → AllFit (due ++ more) (fs ++ gs)
+pub fit-append : (due more : List ℕ) (fs gs : List Fields) → AllFit due fs → AllFit more gs
+    → AllFit (due ++ more) (fs ++ gs)
 fit-append [] more [] gs x y = y
 fit-append [] more (f ∷ fs) gs x y = absurd x
 fit-append (row ∷ due) more [] gs x y = absurd x
 fit-append (row ∷ due) more (f ∷ fs) gs x y = (x .0, fit-append due more fs gs (x .1) y)
 
-pub lines-append : (due more : List ℕ) (fs gs : List Fields) → length due ≡ length fs → linesOf (due ++ more) (fs ++ gs) ≡ linesOf due fs ++ linesOf more gs
+pub lines-append : (due more : List ℕ) (fs gs : List Fields) → length due ≡ length fs
+    → linesOf (due ++ more) (fs ++ gs) ≡ linesOf due fs ++ linesOf more gs
 unfolding linesOf
 lines-append [] more [] gs e = refl
 lines-append [] more (f ∷ fs) gs e = absurd (omega arith)
@@ -108,7 +106,8 @@ text-replicate (suc k) row = omega (arith, text-replicate k row, suc-mul k (line
 
 -- one kind up to the end
 module _ (row : ℕ) (fs : List Fields) where
-  pub end-found : AllFit (replicate (length fs) row) fs → framesToEnd row (linesOf (replicate (length fs) row) fs) ≡ listed fs
+  pub end-found : AllFit (replicate (length fs) row) fs
+      → framesToEnd row (linesOf (replicate (length fs) row) fs) ≡ listed fs
   unfolding framesToEnd lineLength
   end-found x =
       let n : length (linesOf (replicate (length fs) row) fs) ≡ length fs * lineLength row =
@@ -122,28 +121,6 @@ module _ (row : ℕ) (fs : List Fields) where
   end-whole text e =
       let w = whole (replicate (length text / lineLength row) row) text fs e in
       let n : length text / lineLength row ≡ length fs =
-      sym (length-replicate (length text / lineLength row) row) ∙ fit-count (replicate (length text / lineLength row) row) fs (w .fit) in
+      sym (length-replicate (length text / lineLength row) row)
+      ∙ fit-count (replicate (length text / lineLength row) row) fs (w .fit) in
       rw n at w
-
--- the text of one frame more
-pub lines-next : (due : List ℕ) (fs : List Fields) (d : Fields) (i : ℕ) → length due ≡ length fs → i < length due
-    → linesOf (take (suc i) due) (take (suc i) fs) ≡ linesOf (take i due) (take i fs) ++ lineOf (getD due i 0) (getD fs i d)
-unfolding linesOf
-lines-next [] fs d i e h = absurd (omega arith)
-lines-next (row ∷ due) [] d i e h = absurd (omega arith)
-lines-next (row ∷ due) (f ∷ fs) d zero e h = append-nil (lineOf row f)
-lines-next (row ∷ due) (f ∷ fs) d (suc i) e h =
-    ap (λ (t : List ℕ). lineOf row f ++ t) (lines-next due fs d i (omega arith) (omega arith))
-    ∙ sym (append-assoc (lineOf row f) (linesOf (take i due) (take i fs)) (lineOf (getD due i 0) (getD fs i d)))
-
-pub text-next : (due : List ℕ) (i : ℕ) → i < length due → textLength (take (suc i) due) ≡ textLength (take i due) + lineLength (getD due i 0)
-unfolding textLength total
-text-next [] i h = absurd (omega arith)
-text-next (row ∷ due) zero h = omega arith
-text-next (row ∷ due) (suc i) h = omega (arith, text-next due i (omega arith))
-
-pub text-take : (due : List ℕ) (i : ℕ) → textLength (take i due) ≤ textLength due
-unfolding textLength total
-text-take due zero = omega arith
-text-take [] (suc i) = omega arith
-text-take (row ∷ due) (suc i) = omega (arith, text-take due i)

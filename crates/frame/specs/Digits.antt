@@ -3,6 +3,7 @@ use mathlib.Core.Bool.{Bool, true, cond, _&&_}
 use mathlib.Core.List.{List, [], _∷_}
 use Prim.Native.Nat.{ℕ, zero, suc, _+_, _*_, _-_, _/_, _%_}
 use lib.Dec.{leb, ltb}
+use Rattle.base.specs.Fold.{tabulate}
 use Rattle.frame.specs.declared.digits.Number.{Number}
 use Rattle.frame.specs.declared.digits.Number.the-variants.{Spelt, Broken}
 
@@ -10,14 +11,13 @@ use Rattle.frame.specs.declared.digits.Number.the-variants.{Spelt, Broke
 unfoldable pub valueOf : ℕ → ℕ
 valueOf c = cond (ltb c 48) 16 (cond (leb c 57) (c - 48) (cond (ltb c 97) 16 (cond (leb c 102) (c - 97 + 10) 16)))
 
--- f at each number below n
-unfoldable pub upTo : {A : Type 0} → ℕ → (ℕ → A) → List A
-upTo zero f = []
-upTo (suc n) f = f 0 ∷ upTo n (λ k. f (suc k))
+-- how many values a byte can have
+abbrev pub byteValues : ℕ
+byteValues = 256
 
 -- the value at each byte
 unfoldable pub digitValues : List ℕ
-digitValues = upTo 256 valueOf
+digitValues = tabulate byteValues valueOf
 
 -- the digit of a value below 16
 unfoldable pub digitOf : ℕ → ℕ

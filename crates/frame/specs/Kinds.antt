@@ -68,8 +68,8 @@ abbrev pub ofCosts : Costs → Fields
 ofCosts c = fieldsFrom (unsignedOf keptDigits (c .kept) ∷ unsignedOf unreservedDigits (c .unreserved) ∷ [])
 
 -- kind 0f: a refusal
-abbrev pub refusalOf : Fields → Refusal
-refusalOf f = record { number = f .first }
+abbrev pub refusalIn : Fields → Refusal
+refusalIn f = record { number = f .first }
 
 abbrev pub ofRefusal : Refusal → Fields
 ofRefusal r = fieldsFrom (r .number ∷ [])

@@ -1,7 +1,6 @@
-pub mod Answer
-pub mod Digits
-pub mod Frames
-pub mod Kinds
-pub mod Line
-pub mod Sign
 pub mod Table
+pub mod Digits
+pub mod Sign
+pub mod Line
+pub mod Kinds
+pub mod Frames

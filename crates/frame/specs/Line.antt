@@ -4,7 +4,8 @@ use mathlib.Core.List.{List, [], _∷_}
 use Prim.Native.Nat.{ℕ, _+_, _^_, _<_}
 use lib.Dec.{leb, eqb}
 use lib.ListN.{length, take, drop, getD}
-use Rattle.frame.specs.Answer.{Answer, refused, answer, FORM}
+use Rattle.base.specs.Answer.{Answer, refused, answer}
+use Rattle.base.specs.Refusals.{FORM}
 use Rattle.frame.specs.Table.{fields, kindOf, widths, total, startOf, lineLength}
 use Rattle.frame.specs.Digits.{allDigits, numberOf, spell}
 use Rattle.frame.specs.declared.line.Fields.{Fields}
@@ -79,7 +80,8 @@ readLine row text at = lineAt row (drop at text) (at + lineLength row)
 -- the frame of a line whose kind and feed are right
 unfoldable pub fieldsLine : ℕ → List ℕ → ℕ → Answer Placed
 fieldsLine row t next =
-    cond (allDigits (take (total (widths row)) (drop kindDigits t))) (answer (placed (fieldsOf row t) next)) (refused FORM)
+    cond (allDigits (take (total (widths row)) (drop kindDigits t))) (answer (placed (fieldsOf row t) next))
+    (refused FORM)
 
 -- each number has room in its digits
 abbrev pub FitAll : List ℕ → List ℕ → Type 0

@@ -18,7 +18,8 @@ table =
 abbrev pub rows : ℕ
 rows = 7
 
--- the rows by name: a network's head and its edges, a chain's steps and its ending, kept edges and their costs, a refusal
+-- the rows by name: a network's head and its edges, a chain's
+-- steps and its ending, kept edges and their costs, a refusal
 abbrev pub HEAD : ℕ
 HEAD = 0
 

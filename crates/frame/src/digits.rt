@@ -5,8 +5,10 @@ ghost use Prim.Native.Nat.{_<_, _≤_};
 ghost use lib.ListN.{length};
 ghost use Rattle.frame.specs.Digits.{valueOf, digitValues, digitOf, numberIn, spell};
 
-// How many values a digit can have.
+// How many values a digit can have, and a byte.
 const BASE: u64 = 16;
+
+pub const BYTE_VALUES: usize = 256;
 
 // The number that digits spell, or that a byte among them is no digit.
 pub enum Number {
@@ -27,10 +29,10 @@ fn digit_of(value: u64) -> u8
 }
 
 // The value of each byte as a digit: 0 to 15, and 16 of a byte that is no digit.
-pub fn digit_values() -> [u8; 256]
+pub fn digit_values() -> [u8; BYTE_VALUES]
     ensures { λ r. ⌜ r ≡ digitValues ⌝ }
 {
-    let mut values = [BASE as u8; 256];
+    let mut values = [BASE as u8; BYTE_VALUES];
     let mut value = 0;
     while value < BASE {
         let digit = digit_of(value);
@@ -41,7 +43,7 @@ pub fn digit_values() -> [u8; 256]
 }
 
 // The value of a digit, looked up among the values of all bytes.
-fn value_of(values: &[u8; 256], byte: u8) -> u64
+fn value_of(values: &[u8; BYTE_VALUES], byte: u8) -> u64
     requires { ⌜ now values ≡ digitValues ⌝ }
     ensures { λ r. ⌜ r ≡ valueOf byte ⌝ }
 {
@@ -49,7 +51,7 @@ fn value_of(values: &[u8; 256], byte: u8) -> u64
 }
 
 // The number that at most sixteen digits spell.
-pub fn read_number(text: &[u8], values: &[u8; 256]) -> Number
+pub fn read_number(text: &[u8], values: &[u8; BYTE_VALUES]) -> Number
     requires { ⌜ (length (now text) ≤ 16) × (now values ≡ digitValues) ⌝ }
     ensures { λ r. ⌜ r ≡ numberIn (now (text .entry)) ⌝ }
 {

@@ -11,7 +11,8 @@ ghost use Prim.Native.Nat.{_*_, _^_, _<_};
 ghost use lib.Signed.{mag};
 ghost use Rattle.frame.specs.Table.{EDGE, COSTS};
 ghost use Rattle.frame.specs.Line.{Fits};
-ghost use Rattle.frame.specs.Kinds.{headOf, ofHead, edgeOf, ofEdge, costDigits, stepOf, ofStep, droppedOf, ofDropped, keptOf, ofKept, costsOf, ofCosts, refusalOf, ofRefusal};
+ghost use Rattle.frame.specs.Kinds.{headOf, ofHead, edgeOf, ofEdge, costDigits, stepOf, ofStep, droppedOf};
+ghost use Rattle.frame.specs.Kinds.{ofDropped, keptOf, ofKept, costsOf, ofCosts, refusalIn, ofRefusal};
 
 // Kind 01: how many vertices a network has, and its reserved edge.
 pub struct Head {
@@ -191,7 +192,7 @@ impl Costs {
 
 impl Refusal {
     pub fn of(f: Fields) -> Self
-        ensures { λ r. ⌜ r ≡ refusalOf f ⌝ }
+        ensures { λ r. ⌜ r ≡ refusalIn f ⌝ }
     {
         Refusal { number: f.first }
     }

@@ -1,8 +1,7 @@
-// Frames as lines of hexadecimal digits: one table for reader and writer, frames with named fields, and replies.
+// Frames as lines of hexadecimal digits: one table for reader and writer, frames with named fields.
 mod digits;
 mod kinds;
 mod line;
-mod reply;
 mod sign;
 mod table;
 
@@ -17,7 +16,6 @@ pub use line::Fields;
 pub use line::Line;
 pub use line::put_line;
 pub use line::read_line;
-pub use reply::Reply;
 pub use table::COSTS;
 pub use table::DROPPED;
 pub use table::EDGE;

@@ -1,4 +1,5 @@
 // Lines: a frame's fields, spelt at the places that the table gives, and a line feed.
+use super::digits::BYTE_VALUES;
 use super::digits::Number;
 use super::digits::digit_values;
 use super::digits::put_number;
@@ -10,7 +11,7 @@ use super::table::start_of;
 ghost use mathlib.Core.Path.{_≡_};
 ghost use Prim.Native.Nat.{_+_, _<_, _≤_};
 ghost use lib.ListN.{length, take, drop};
-ghost use Rattle.frame.specs.Answer.{over};
+ghost use Rattle.base.specs.Answer.{over};
 ghost use Rattle.frame.specs.Table.{rows, fields, startOf, digitsOf, lineLength};
 ghost use Rattle.frame.specs.Digits.{digitValues, numberIn, spell};
 ghost use Rattle.frame.specs.Line.{fieldsFrom, listOf, answerOf, lineAt, readLine, fieldsLine, lineOf};
@@ -64,8 +65,9 @@ pub enum Line {
 }
 
 // The number that a field of a line spells.
-fn read_field(line: &[u8], row: usize, field: usize, values: &[u8; 256]) -> Number
-    requires { ⌜ (row < rows) × (field < fields) × (startOf row fields ≤ length (now line)) × (now values ≡ digitValues) ⌝ }
+fn read_field(line: &[u8], row: usize, field: usize, values: &[u8; BYTE_VALUES]) -> Number
+    requires { ⌜ (row < rows) × (field < fields) × (startOf row fields ≤ length (now line)) ×
+        (now values ≡ digitValues) ⌝ }
     ensures { λ r. ⌜ r ≡ numberIn (take (digitsOf row field) (drop (startOf row field) (now (line .entry)))) ⌝ }
 {
     let start = start_of(row, field);
@@ -85,7 +87,7 @@ fn put_field(out: &mut [u8], row: usize, field: usize, number: u64)
 }
 
 // The fields of a line, with the place behind it, where the bytes at their places are digits.
-fn read_fields(line: &[u8], row: usize, next: usize, values: &[u8; 256]) -> Line
+fn read_fields(line: &[u8], row: usize, next: usize, values: &[u8; BYTE_VALUES]) -> Line
     requires { ⌜ (row < rows) × (startOf row fields ≤ length (now line)) × (now values ≡ digitValues) ⌝ }
     ensures { λ r. ⌜ answerOf r ≡ fieldsLine row (now (line .entry)) next ⌝ }
 {
@@ -102,7 +104,7 @@ fn read_fields(line: &[u8], row: usize, next: usize, values: &[u8; 256]) -> Line
 }
 
 // The frame of a row's kind whose line `line` starts with, with the place behind the line.
-fn line_at(line: &[u8], row: usize, next: usize, values: &[u8; 256]) -> Line
+fn line_at(line: &[u8], row: usize, next: usize, values: &[u8; BYTE_VALUES]) -> Line
     requires { ⌜ (row < rows) × (now values ≡ digitValues) ⌝ }
     ensures { λ r. ⌜ answerOf r ≡ lineAt row (now (line .entry)) next ⌝ }
 {

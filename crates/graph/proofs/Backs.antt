@@ -1,4 +1,5 @@
--- Going back gives exactly one set of marks for a chain by the rules: the set that the check of the chain keeps. It is good.
+-- Going back gives exactly one set of marks for a chain by the
+-- rules: the set that the check of the chain keeps. It is good.
 use mathlib.Core.Path.{_≡_, refl, sym, _∙_, ap}
 use mathlib.Core.Logic.{_≢_}
 use mathlib.Core.Bool.{Bool, true, false}
@@ -9,17 +10,18 @@ use native.Mathlib.Decide.{ℕ-discrete, decLt}
 use lib.Dec.{eqb}
 use lib.ListN.{length, set, length-set, List·getD-eq-default}
 use lib.Seq.{ext-getD, getD-set-same, getD-set-other, lt-length-set}
-use Rattle.graph.specs.Fold.{only, without, among}
+use Rattle.base.specs.Answer.{answer}
+use Rattle.base.specs.Fold.{only, without, among}
 use Rattle.graph.specs.Network.{kept}
 use Rattle.graph.specs.Split.{split, third, after}
-use Rattle.graph.specs.Chain.{lastEdges, marks, endKept, lift, keeps, check, LastEdge, StepByRule, ByRules, ending, step}
+use Rattle.graph.specs.Chain.{lastEdges, marks, endKept, lift, check, LastEdge, StepByRule, ByRules, ending, step}
 use Rattle.graph.specs.Back.{EndKeeps, Third, StepKeeps, Back, ending as ends, step as goes}
 use Rattle.graph.specs.Sound.{Formed, Sound}
 use Rattle.graph.specs.Condition.{Good}
 use Rattle.graph.specs.declared.Network.{Network}
 use Rattle.graph.specs.declared.Step.{Step}
-use Rattle.graph.proofs.Bools.{never, eqb-self, eqb-no}
-use Rattle.graph.proofs.Sums.{tabulate-length, tabulate-at}
+use Rattle.base.proofs.Bools.{never, eqb-self, eqb-no}
+use Rattle.base.proofs.Sums.{tabulate-length, tabulate-at}
 use Rattle.graph.proofs.Partners.{touch-ends, touches-at, starts-at, among-without}
 use Rattle.graph.proofs.Lifting.{lift-cuts, ratio-step}
 use Rattle.graph.proofs.Endings.{last-of, of-last, not-last, end-good}
@@ -62,9 +64,13 @@ end-marks g d = ext-getD false _ _ (simp length-set (marks-long g is ∙ sym (ma
     is : List ℕ
     is = lastEdges g
 
-    at : (e : ℕ) → e < length (g .low) → Dec (e ≡ d) → kept (set (marks g is) d false) e ≡ kept (marks g (without d is)) e
-    at e l (yes q) = rw q (getD-set-same (marks g is) d false false (omega (arith, q, marks-long g is)) ∙ sym (unmarked g (without d is) d (among-gone d is)))
-    at e l (no q) = getD-set-other (marks g is) d e false false q ∙ marked g is e l ∙ sym (marked g (without d is) e l ∙ among-without d e q is)
+    at : (e : ℕ) → e < length (g .low) → Dec (e ≡ d)
+        → kept (set (marks g is) d false) e ≡ kept (marks g (without d is)) e
+    at e l (yes q) = rw q
+        (getD-set-same (marks g is) d false false (omega (arith, q, marks-long g is))
+        ∙ sym (unmarked g (without d is) d (among-gone d is)))
+    at e l (no q) = getD-set-other (marks g is) d e false false q ∙ marked g is e l
+        ∙ sym (marked g (without d is) e l ∙ among-without d e q is)
 
 -- the check's ending keeps what the rule says
 end-keeps : {g : Network} → Formed g → {d : ℕ} → d < g .edges → EndKeeps g d (endKept g d)
@@ -75,7 +81,8 @@ end-keeps {g} formed {d} l =
     record {
       sized = simp length-set (marks-long g is);
       dropped = simp getD-set-same;
-      others = λ e p ne. simp getD-set-other (marked g is e (omega (arith, p .number, formed .low-room)) ∙ of-last g e p);
+      others = λ e p ne. simp getD-set-other
+          (marked g is e (omega (arith, p .number, formed .low-room)) ∙ of-last g e p);
       rest = λ e out ne. simp getD-set-other (unmarked g is e (unlisted e out (among e is) refl));
     }
   where
@@ -105,7 +112,7 @@ module _ {g : Network} {t : Step} (w : Stepped g t) where
         not-y = λ q. f .yz (sym q);
       }
 
-  -- and there is no other
+  -- and there is no other: an edge at v is the reserved one, x, y or z
   one-third : {z : ℕ} → Third g t z → z ≡ third g t
   one-third {z} p = elim (ℕ-discrete z (third g t)) [
     | yes q ↦ q
@@ -117,7 +124,8 @@ module _ {g : Network} {t : Step} (w : Stepped g t) where
   ]
 
   -- the check goes back as the rule says
-  lift-ruled : (later : List Bool) → g .edges ≤ length later → StepKeeps (t .x) (t .y) (third g t) later (lift (t .x) (t .y) (third g t) later)
+  lift-ruled : (later : List Bool) → g .edges ≤ length later
+      → StepKeeps (t .x) (t .y) (third g t) later (lift (t .x) (t .y) (third g t) later)
   unfolding lift
   lift-ruled later room =
       let x-place : t .x < length later = omega (arith, w .at .four .x<) in
@@ -139,8 +147,9 @@ step-one {x} {y} {K = K} {L = L} k l = ext-getD false K L (k .sized ∙ sym (l .
   ]
 ])
 
--- going back through a step keeps a good set good
-good-step : {g : Network} → Sound g → {t : Step} → StepByRule g t → (w : Stepped g t) {later K : List Bool} → StepKeeps (t .x) (t .y) (third g t) later K
+-- going back through a step keeps a good set good: cuts by `lift-cuts`, the ratio by `ratio-step`
+good-step : {g : Network} → Sound g → {t : Step} → StepByRule g t → (w : Stepped g t) {later K : List Bool}
+    → StepKeeps (t .x) (t .y) (third g t) later K
     → Good (after g t) later → Good g K
 unfolding after
 good-step {g} sound r w {later} {K} k q =
@@ -154,15 +163,17 @@ good-step {g} sound r w {later} {K} k q =
 
 -- ── a chain ──
 
--- what going back gives is good
-pub back-good : {g : Network} {ts : List Step} {d : ℕ} {K : List Bool} → Sound g → ByRules g ts d → Back g ts d K → Good g K
+-- what going back gives is good: the ending's set is, and each step keeps it so, on sound networks all along
+pub back-good : {g : Network} {ts : List Step} {d : ℕ} {K : List Bool} → Sound g → ByRules g ts d → Back g ts d K
+    → Good g K
 back-good sound (ending two r) (ends k) = end-good sound two r k
 back-good {ts = t ∷ ts} sound (step more r rest) (goes b p k) =
     let w = stepped sound (omega arith) t r in
     good-step sound r w (rw (one-third w p) at k) (back-good (sound-step sound t w) rest b)
 
 -- it is a set of the network's edges
-pub back-below : {g : Network} {ts : List Step} {d : ℕ} {K : List Bool} → Sound g → ByRules g ts d → Back g ts d K → (e : ℕ) → kept K e ≡ true → e < g .edges
+pub back-below : {g : Network} {ts : List Step} {d : ℕ} {K : List Bool} → Sound g → ByRules g ts d → Back g ts d K
+    → (e : ℕ) → kept K e ≡ true → e < g .edges
 back-below {g} {d = d} {K = K} sound (ending two r) (ends k) e h = elim (ℕ-discrete e d) [
   | yes q ↦ never (sym (k .dropped) ∙ rw q at h)
   | no q ↦ go (among e (lastEdges g)) refl q
@@ -185,8 +196,10 @@ back-below {g} {ts = t ∷ ts} {K = K} sound (step more r rest) (goes b p k) e h
     edges-stay = unfold after split in refl
 
 -- the check of a chain keeps what going back gives
-pub check-back : {g : Network} {ts : List Step} {d : ℕ} {K : List Bool} → Sound g → ByRules g ts d → check g ts d ≡ keeps K → Back g ts d K
-check-back {g} {d = d} {K = K} sound (ending two r) h = rw (← check-ended g d K h .marks-are) (ends (end-keeps (sound .formed) (r .one .number)))
+pub check-back : {g : Network} {ts : List Step} {d : ℕ} {K : List Bool} → Sound g → ByRules g ts d
+    → check g ts d ≡ answer K → Back g ts d K
+check-back {g} {d = d} {K = K} sound (ending two r) h =
+    rw (← check-ended g d K h .marks-are) (ends (end-keeps (sound .formed) (r .one .number)))
 check-back {g} {ts = t ∷ ts} {d = d} {K = K} sound (step more r rest) h =
     let c = check-began g t ts d K h in
     let w = stepped sound (omega arith) t r in
@@ -197,8 +210,9 @@ check-back {g} {ts = t ∷ ts} {d = d} {K = K} sound (step more r rest) h =
     room : (K : List Bool) → length K ≡ length (after g t .low) → g .edges ≤ length K
     room K e = unfold after split in omega (arith, simp length-set at e, sound .formed .low-room)
 
--- going back gives one set of marks at most
-pub back-one : {g : Network} {ts : List Step} {d : ℕ} {K L : List Bool} → Sound g → ByRules g ts d → Back g ts d K → Back g ts d L → K ≡ L
+-- going back gives one set of marks at most: the ending settles each mark, and so does a step, whose z is settled too
+pub back-one : {g : Network} {ts : List Step} {d : ℕ} {K L : List Bool} → Sound g → ByRules g ts d → Back g ts d K
+    → Back g ts d L → K ≡ L
 back-one sound (ending two r) (ends k) (ends l) = end-one k l
 back-one {ts = t ∷ ts} sound (step more r rest) (goes b p k) (goes c q l) =
     let w = stepped sound (omega arith) t r in
@@ -206,9 +220,11 @@ back-one {ts = t ∷ ts} sound (step more r rest) (goes b p k) (goes c q l) =
     step-one (rw (same, one-third w p) at k) (rw (one-third w q) at l)
 
 -- a chain by the rules passes its check, which keeps what going back gives
-pub back-check : {g : Network} {ts : List Step} {d : ℕ} {K : List Bool} → Sound g → ByRules g ts d → Back g ts d K → check g ts d ≡ keeps K
-back-check sound r b = let w = ruled-passes r in w .1 ∙ ap keeps (back-one sound r (check-back sound r (w .1)) b)
+pub back-check : {g : Network} {ts : List Step} {d : ℕ} {K : List Bool} → Sound g → ByRules g ts d → Back g ts d K
+    → check g ts d ≡ answer K
+back-check sound r b = let w = ruled-passes r in w .1 ∙ ap answer (back-one sound r (check-back sound r (w .1)) b)
 
 -- what a passing chain keeps is good
-pub passes-good : (ts : List Step) {g : Network} → Sound g → (d : ℕ) (K : List Bool) → check g ts d ≡ keeps K → Good g K
+pub passes-good : (ts : List Step) {g : Network} → Sound g → (d : ℕ) (K : List Bool) → check g ts d ≡ answer K
+    → Good g K
 passes-good ts sound d K h = let r = passes-ruled ts sound d K h in back-good sound r (check-back sound r h)

@@ -1,34 +1,29 @@
 -- The check of a chain: what a check that passes has passed, and that it agrees with the rules.
 use mathlib.Core.Path.{_≡_, refl}
-use mathlib.Core.Bool.{Bool, true, false, cond}
+use mathlib.Core.Bool.{Bool}
 use mathlib.Core.List.{List, [], _∷_}
-use Prim.Native.Nat.{ℕ, zero, suc, _≤_, _<_}
+use Prim.Native.Nat.{ℕ, _≤_, _<_}
 use native.Mathlib.Omega.{arith}
 use lib.Dec.{eqb, ltb}
 use borrow.Author.Tests.{eqb-true, ltb-true, eq-eqb, lt-ltb}
+use Rattle.base.specs.Answer.{Answer, answer, refused, unless}
+use Rattle.base.proofs.Bools.{no-answer}
+use Rattle.base.proofs.Answers.{unless-answered, cond-answered}
 use Rattle.graph.specs.Split.{third, after}
-use Rattle.graph.specs.Chain.{stepRefusal, endRefusal, endKept, lift, Verdict, refused, keeps, liftVerdict, unless, check, ByRules, ending, step}
+use Rattle.graph.specs.Chain.{stepRefusal, endRefusal, endKept, lift, lifted, check, ByRules, ending, step}
 use Rattle.graph.specs.Sound.{Sound}
 use Rattle.graph.specs.Condition.{Passes}
 use Rattle.graph.specs.declared.Network.{Network}
 use Rattle.graph.specs.declared.Step.{Step}
 use Rattle.graph.proofs.Rules.{step-ruled, ruled-step, stepped, sound-step, ending-ruled, ruled-ending}
 
--- ── taking a verdict apart ──
-pub unless-keeps : (k : ℕ) (w : Verdict) (K : List Bool) → unless k w ≡ keeps K → (k ≡ 0) × (w ≡ keeps K)
-unfolding unless
-unless-keeps zero w K h = (refl, h)
-unless-keeps (suc k) w K h = let z : _≡_ {A = ℕ} 0 1 = cc in absurd (omega arith)
-
-pub counted-keeps : (t : Bool) (w : Verdict) (k : ℕ) (K : List Bool) → cond t w (refused k) ≡ keeps K → (t ≡ true) × (w ≡ keeps K)
-counted-keeps true w k K h = (refl, h)
-counted-keeps false w k K h = let z : _≡_ {A = ℕ} 0 1 = cc in absurd (omega arith)
-
-pub lift-keeps : (g : Network) (t : Step) (w : Verdict) (K : List Bool) → liftVerdict g t w ≡ keeps K
-    → (L : List Bool) × (w ≡ keeps L) × (lift (t .x) (t .y) (third g t) L ≡ K)
-unfolding liftVerdict
-lift-keeps g t (refused k) K h = let z : _≡_ {A = ℕ} 0 1 = cc in absurd (omega arith)
-lift-keeps g t (keeps L) K h = (L, refl, cc)
+-- what was lifted was kept
+pub lift-keeps : (g : Network) (t : Step) (w : Answer (List Bool)) (K : List Bool)
+    → lifted (t .x) (t .y) (third g t) w ≡ answer K
+    → (L : List Bool) × (w ≡ answer L) × (lift (t .x) (t .y) (third g t) L ≡ K)
+unfolding lifted
+lift-keeps g t (refused k) K h = no-answer (cc)
+lift-keeps g t (answer L) K h = (L, refl, cc)
 
 -- what a check that passes has passed
 pub record Ended (g : Network) (d : ℕ) (K : List Bool) : Type 0 where
@@ -36,30 +31,40 @@ pub record Ended (g : Network) (d : ℕ) (K : List Bool) : Type 0 where
   pub passed : endRefusal g d ≡ 0
   pub marks-are : endKept g d ≡ K
 
-pub check-ended : (g : Network) (d : ℕ) (K : List Bool) → check g [] d ≡ keeps K → Ended g d K
+pub check-ended : (g : Network) (d : ℕ) (K : List Bool) → check g [] d ≡ answer K → Ended g d K
 unfolding check
 check-ended g d K h =
-    let c = counted-keeps (eqb (g .remaining) 2) _ 1 K h in
-    let u = unless-keeps (endRefusal g d) (keeps (endKept g d)) K (c .1) in
+    let c = cond-answered (eqb (g .remaining) 2) _ 1 K h in
+    let u = unless-answered (endRefusal g d) (answer (endKept g d)) K (c .1) in
     record { two = eqb-true (g .remaining) 2 (c .0); passed = u .0; marks-are = cc (u .1) }
 
 pub record Began (g : Network) (t : Step) (ts : List Step) (d : ℕ) (K : List Bool) : Type 0 where
   pub more : 2 < g .remaining
   pub passed : stepRefusal g t ≡ 0
   pub later : List Bool
-  pub later-keeps : check (after g t) ts d ≡ keeps later
+  pub later-keeps : check (after g t) ts d ≡ answer later
   pub marks-are : lift (t .x) (t .y) (third g t) later ≡ K
 
-pub check-began : (g : Network) (t : Step) (ts : List Step) (d : ℕ) (K : List Bool) → check g (t ∷ ts) d ≡ keeps K → Began g t ts d K
+pub check-began : (g : Network) (t : Step) (ts : List Step) (d : ℕ) (K : List Bool) → check g (t ∷ ts) d ≡ answer K
+    → Began g t ts d K
 unfolding check
 check-began g t ts d K h =
-    let c = counted-keeps (ltb 2 (g .remaining)) _ 1 K h in
-    let u = unless-keeps (stepRefusal g t) (liftVerdict g t (check (after g t) ts d)) K (c .1) in
+    let c = cond-answered (ltb 2 (g .remaining)) _ 1 K h in
+    let u = unless-answered (stepRefusal g t) (lifted (t .x) (t .y) (third g t) (check (after g t) ts d)) K (c .1) in
     let l = lift-keeps g t (check (after g t) ts d) K (u .1) in
-    record { more = ltb-true 2 (g .remaining) (c .0); passed = u .0; later = l .0; later-keeps = l .1; marks-are = l .2 }
+    record {
+      more = ltb-true 2 (g .remaining) (c .0);
+      passed = u .0;
+      later = l .0;
+      later-keeps = l .1;
+      marks-are =
+          l .2;
+    }
 
 -- ── the check and the rules agree ──
-pub passes-ruled : (ts : List Step) {g : Network} → Sound g → (d : ℕ) (K : List Bool) → check g ts d ≡ keeps K → ByRules g ts d
+-- step by step: what is not refused keeps the rules, and leaves a sound network for the next step
+pub passes-ruled : (ts : List Step) {g : Network} → Sound g → (d : ℕ) (K : List Bool) → check g ts d ≡ answer K
+    → ByRules g ts d
 passes-ruled [] {g} sound d K h = let w = check-ended g d K h in ending (w .two) (ending-ruled g d (w .passed))
 passes-ruled (t ∷ ts) {g} sound d K h =
     let w = check-began g t ts d K h in
@@ -67,8 +72,9 @@ passes-ruled (t ∷ ts) {g} sound d K h =
     let r = step-ruled sound two t (w .passed) in
     step (w .more) r (passes-ruled ts (sound-step sound t (stepped sound two t r)) d (w .later) (w .later-keeps))
 
+-- and what keeps the rules is not refused
 pub ruled-passes : {g : Network} {ts : List Step} {d : ℕ} → ByRules g ts d → Passes g ts d
-unfolding check unless liftVerdict
+unfolding check unless lifted
 ruled-passes {g} {d = d} (ending two r) = (endKept g d, rw (eq-eqb (g .remaining) 2 two, ruled-ending g d r))
 ruled-passes {g} {ts = t ∷ ts} {d = d} (step more r rest) =
     let w = ruled-passes rest in

@@ -9,18 +9,20 @@ use native.Mathlib.Nat.{mul-le-mul-right}
 use lib.Dec.{eqb}
 use lib.IntN.{natAbs}
 use borrow.Author.Tests.{eq-eqb, lt-ltb}
-use Rattle.graph.specs.Fold.{bit}
+use Rattle.base.specs.Answer.{answer, unless}
+use Rattle.base.specs.Limits.{edgeLimit}
+use Rattle.base.specs.Fold.{bit}
 use Rattle.graph.specs.Network.{lowEnd, highEnd, costOf, here, degree}
 use Rattle.graph.specs.Cut.{everyCut, fourEach, networkRefusal}
 use Rattle.graph.specs.Split.{split, after}
-use Rattle.graph.specs.Chain.{keeps, liftVerdict, unless, check, Leads, stays, goes}
+use Rattle.graph.specs.Chain.{lifted, check, Leads, stays, goes}
 use Rattle.graph.specs.Plan.{chosenStep, planSteps, planDrop, planKept}
 use Rattle.graph.specs.Sound.{Sound, Fresh, weight}
 use Rattle.graph.specs.Condition.{Condition}
 use Rattle.graph.specs.declared.Network.{Network}
 use Rattle.graph.specs.declared.Step.{Step}
-use Rattle.graph.proofs.Bools.{never, eqb-is}
-use Rattle.graph.proofs.Sums.{sum-ext, sum-ones, sum-bound, term-le, each-at}
+use Rattle.base.proofs.Bools.{never, eqb-is}
+use Rattle.base.proofs.Sums.{sum-ext, sum-ones, sum-bound, term-le, each-at}
 use Rattle.graph.proofs.EveryCut.{every-cut-sound}
 use Rattle.graph.proofs.Lifting.{weight-after}
 use Rattle.graph.proofs.Rules.{ruled-step, Stepped, stepped, sound-step, sound-either}
@@ -29,15 +31,21 @@ use Rattle.graph.proofs.Backs.{back-good, check-back, back-one, back-ch
 use Rattle.graph.proofs.Plans.{chosen-ruled, chosen-drop-passes}
 
 -- ── the planner's chain passes, and keeps what the plan keeps ──
-pub plan-checked : (n : ℕ) {g : Network} → Sound g → g .remaining ≡ 2 + n → check g (planSteps n g) (planDrop n g) ≡ keeps (planKept n g)
-unfolding planSteps planDrop planKept check unless liftVerdict
+-- each chosen step keeps the rules, so it is not refused, and leaves a sound network with a vertex less
+pub plan-checked : (n : ℕ) {g : Network} → Sound g → g .remaining ≡ 2 + n
+    → check g (planSteps n g) (planDrop n g) ≡ answer (planKept n g)
+unfolding planSteps planDrop planKept check unless lifted
 plan-checked zero {g} sound e = rw (eq-eqb (g .remaining) 2 e, chosen-drop-passes sound e)
 plan-checked (suc n) {g} sound e =
     let t = chosenStep g in
     let two : 2 ≤ g .remaining = omega arith in
     let more : 2 < g .remaining = omega arith in
     let r = chosen-ruled sound two in
-    rw (lt-ltb 2 (g .remaining) more, ruled-step g t r, plan-checked n (sound-step sound t (stepped sound two t r)) (fewer e))
+    rw (
+      lt-ltb 2 (g .remaining) more,
+      ruled-step g t r,
+      plan-checked n (sound-step sound t (stepped sound two t r)) (fewer e),
+    )
   where
     fewer : g .remaining ≡ 2 + suc n → after g (chosenStep g) .remaining ≡ 2 + n
     fewer e = unfold after split in omega arith
@@ -48,7 +56,7 @@ refusal-zero true true h = (refl, refl)
 refusal-zero true false h = absurd (omega arith)
 refusal-zero false b h = absurd (omega arith)
 
--- an accepted network is sound
+-- an accepted network is sound: all vertices are present, degrees are by refusal 6 and cuts by refusal 7
 pub accepted-sound : {g : Network} → Fresh g → networkRefusal g ≡ 0 → Sound g
 unfolding networkRefusal fourEach
 accepted-sound {g} fresh h =
@@ -56,7 +64,10 @@ accepted-sound {g} fresh h =
     let w = refusal-zero (fourEach g) (everyCut 4 g) h in
     record {
       formed = f;
-      joins = λ e l. inl (fresh .all-here (lowEnd g e) (f .low-below e l), fresh .all-here (highEnd g e) (f .high-below e l));
+      joins = λ e l. inl (
+        fresh .all-here (lowEnd g e) (f .low-below e l),
+        fresh .all-here (highEnd g e) (f .high-below e l),
+      );
       degrees = λ v k. eqb-is (each-at (g .vertices) (λ v. eqb (degree g v) 4) (w .0) v (f .here-below v k));
       cuts = every-cut-sound 4 (λ e. true) f (w .1);
       held = fresh .all-here (lowEnd g (g .reserved)) (f .low-below (g .reserved) (f .reserved-below));
@@ -74,15 +85,20 @@ pub leads-sound : {g h : Network} {ts : List Step} → Sound g → Leads g ts h 
 leads-sound sound stays = sound
 leads-sound {ts = t ∷ ts} sound (goes more r l) = leads-sound (sound-step sound t (stepped sound (omega arith) t r)) l
 
--- Condition 3 over meanings, whichever edge is reserved
+-- Condition 3 over meanings, whichever edge is reserved: check and rules agree, going back gives one good set, and the
+-- planner's chain shows that there is one
 pub condition : {g : Network} → Fresh g → 2 ≤ g .vertices → networkRefusal g ≡ 0 → Condition g
 condition {g} fresh two h =
     let sound = accepted-sound fresh h in
     let n = g .remaining - 2 in
     let passes = plan-checked n sound (omega (arith, fresh-remaining fresh)) in
     record {
-      rules = λ ts d K. (λ h. let r = passes-ruled ts sound d K h in (r, check-back sound r h), λ p. back-check sound (p .0) (p .1));
-      one = λ ts d r. let w = ruled-passes r in let b = check-back sound r (w .1) in (w .0, b, λ L c. back-one sound r c b);
+      rules = λ ts d K. (
+        λ h. let r = passes-ruled ts sound d K h in (r, check-back sound r h),
+        λ p. back-check sound (p .0) (p .1),
+      );
+      one = λ ts d r. let w = ruled-passes r in let b =
+          check-back sound r (w .1) in (w .0, b, λ L c. back-one sound r c b);
       good = λ ts d K r b. back-good sound r b;
       exists = (planSteps n g, planDrop n g, passes-ruled (planSteps n g) sound (planDrop n g) (planKept n g) passes);
       either = λ ts h l more t r. sound-either (leads-sound sound l) (omega arith) t r;
@@ -91,7 +107,8 @@ condition {g} fresh two h =
 -- ── working costs ──
 
 -- no run of steps raises the weight
-pub weight-falls : {g h : Network} {ts : List Step} → Sound g → Leads g ts h → (weight h ≤ weight g) × (h .edges ≡ g .edges)
+pub weight-falls : {g h : Network} {ts : List Step} → Sound g → Leads g ts h
+    → (weight h ≤ weight g) × (h .edges ≡ g .edges)
 weight-falls sound stays = (omega arith, refl)
 weight-falls {g} {ts = t ∷ ts} sound (goes more r l) =
     let w = stepped sound (omega arith) t r in
@@ -101,9 +118,11 @@ weight-falls {g} {ts = t ∷ ts} sound (goes more r l) =
     once : Stepped g t → weight (after g t) ≤ weight g
     once w = unfold after in weight-after (sound .formed) (w .at)
 
--- a working cost is never outside 512 times the limit of the network's own costs
-pub working-costs : (limit : ℕ) {g h : Network} {ts : List Step} → Sound g → g .edges ≤ 512
-    → ((e : ℕ) → e < g .edges → natAbs (costOf g e) ≤ limit) → Leads g ts h → (e : ℕ) → e < h .edges → natAbs (costOf h e) ≤ 512 * limit
+-- a working cost is never outside edgeLimit times the limit of the network's own costs: it is at most the weight,
+-- which was at most the limit for each edge at the start
+pub working-costs : (limit : ℕ) {g h : Network} {ts : List Step} → Sound g → g .edges ≤ edgeLimit
+    → ((e : ℕ) → e < g .edges → natAbs (costOf g e) ≤ limit) → Leads g ts h → (e : ℕ) → e < h .edges
+    → natAbs (costOf h e) ≤ edgeLimit * limit
 unfolding weight
 working-costs limit {g} {h} sound few small l e k =
     let w = weight-falls sound l in

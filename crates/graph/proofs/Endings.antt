@@ -9,8 +9,9 @@ use native.Mathlib.Decide.{ℕ-discrete}
 use lib.Dec.{eqb}
 use lib.IntN.{ℤ, pos, _*ℤ_}
 use lib.Signed.{leZ, _≤ℤ_}
-use Rattle.graph.specs.Fold.{among}
-use Rattle.graph.specs.Network.{lowEnd, highEnd, costOf, here, touches, endsAt, costOver, kept, unreserved, keptCost, allButReserved}
+use Rattle.base.specs.Fold.{among}
+use Rattle.graph.specs.Network.{lowEnd, highEnd, costOf, here, touches, endsAt, costOver, kept, unreserved}
+use Rattle.graph.specs.Network.{keptCost, allButReserved}
 use Rattle.graph.specs.Cut.{Side, differ, crosses, crossingsOf, Divides, EveryCutOf}
 use Rattle.graph.specs.Split.{isPartner, partners}
 use Rattle.graph.specs.Chain.{lastEdges, dearest, LastEdge, EndingByRule}
@@ -18,14 +19,16 @@ use Rattle.graph.specs.Back.{EndKeeps}
 use Rattle.graph.specs.Sound.{Sound}
 use Rattle.graph.specs.Condition.{Good}
 use Rattle.graph.specs.declared.Network.{Network}
-use Rattle.graph.proofs.Bools.{never, eqb-self, eqb-no, and-left, and-right}
-use Rattle.graph.proofs.Sums.{sum-change-four, sum-zeros, pick-ext, pick-among, among-pick}
-use Rattle.graph.proofs.Integers.{P, N, nothing, times-P, times-N, ≤ℤ-is, is-≤ℤ, sumℤ-four}
+use Rattle.base.proofs.Bools.{never, eqb-self, eqb-no, and-left, and-right}
+use Rattle.base.proofs.Sums.{sum-change-four, sum-zeros, pick-ext, pick-among, among-pick}
+use Rattle.base.proofs.Integers.{P, N, nothing, times-P, times-N, ≤ℤ-is, is-≤ℤ, sumℤ-four}
 use Rattle.graph.proofs.Stars.{counted, Runs, runs-crosses, Star}
-use Rattle.graph.proofs.Partners.{another, no-third, touch-ends, touches-at, touches-ends, no-loop, runs-here, three-partners, star, Chosen, chosen, among-without}
+use Rattle.graph.proofs.Partners.{another, no-third, touch-ends, touches-at, touches-ends, no-loop, runs-here}
+use Rattle.graph.proofs.Partners.{three-partners, star, Chosen, chosen, among-without}
 
 -- a dearest of a list is dearer than each of it
-pub dearest-at : (g : Network) (d e : ℕ) (l : List ℕ) → dearest g d l ≡ true → among e l ≡ true → leZ (costOf g e) (costOf g d) ≡ true
+pub dearest-at : (g : Network) (d e : ℕ) (l : List ℕ) → dearest g d l ≡ true → among e l ≡ true
+    → leZ (costOf g e) (costOf g d) ≡ true
 unfolding dearest among
 dearest-at g d e [] h m = never m
 dearest-at g d e (k ∷ l) h m = elim (ℕ-discrete e k) [
@@ -42,13 +45,15 @@ module _ (g : Network) where
       record {
         number = omega (arith, w .1);
         not-retired = and-left (here g (lowEnd g e)) (not (eqb e (g .reserved))) (w .2);
-        not-reserved = λ q. never (rw (q, eqb-self) at (and-right (here g (lowEnd g e)) (not (eqb e (g .reserved))) (w .2)));
+        not-reserved = λ q. never
+            (rw (q, eqb-self) at (and-right (here g (lowEnd g e)) (not (eqb e (g .reserved))) (w .2)));
       }
 
   pub of-last : (e : ℕ) → LastEdge g e → among e (lastEdges g) ≡ true
   unfolding lastEdges
   of-last e p =
-      among-pick (g .edges) 0 (λ e. here g (lowEnd g e) && not (eqb e (g .reserved))) e (omega arith) (omega (arith, p .number)) (rw (p .not-retired, eqb-no (p .not-reserved)))
+      among-pick (g .edges) 0 (λ e. here g (lowEnd g e) && not (eqb e (g .reserved))) e (omega arith)
+      (omega (arith, p .number)) (rw (p .not-retired, eqb-no (p .not-reserved)))
 
   pub not-last : (e : ℕ) → among e (lastEdges g) ≡ false → LastEdge g e → ⊥
   not-last e h p = never (sym h ∙ of-last e p)
@@ -83,7 +88,7 @@ module _ {g : Network} (sound : Sound g) (two : g .remaining ≡ 2) where
   no-loop-o : (e : ℕ) → e < g .edges → lowEnd g e ≡ o → highEnd g e ≡ o → ⊥
   no-loop-o = no-loop sound o-here v-here (λ q. o≢v (sym q))
 
-  -- an edge that is not retired ends at v
+  -- an edge that is not retired ends at v: else both its ends are o, and there is no loop
   touches-here : (e : ℕ) → e < g .edges → touches g v e ≡ here g (lowEnd g e)
   touches-here e l = go (here g (lowEnd g e)) refl
     where
@@ -95,13 +100,15 @@ module _ {g : Network} (sound : Sound g) (two : g .remaining ≡ 2) where
               | yes q ↦ touches-at g v e (inr q)
               | no nh ↦
                   let lo = is-o (lowEnd g e) h ne in
-                  absurd (no-loop-o e l lo (⊎-elim (λ j. is-o (highEnd g e) (j .1) nh) (λ q. sym q ∙ lo) (sound .joins e l)))
+                  absurd (no-loop-o e l lo
+                  (⊎-elim (λ j. is-o (highEnd g e) (j .1) nh) (λ q. sym q ∙ lo) (sound .joins e l)))
             ]
       ]
 
       dead : here g (lowEnd g e) ≡ false → touches g v e ≡ true → ⊥
       dead h t = ⊎-elim (λ q. never (sym h ∙ ap (here g) q ∙ v-here))
-          (λ q. ⊎-elim (λ j. never (sym h ∙ j .0)) (λ k. never (sym h ∙ ap (here g) (k ∙ q) ∙ v-here)) (sound .joins e l))
+          (λ q. ⊎-elim (λ j. never (sym h ∙ j .0)) (λ k. never (sym h ∙ ap (here g) (k ∙ q) ∙ v-here))
+          (sound .joins e l))
           (touches-ends g v e t)
 
       go : (t : Bool) → here g (lowEnd g e) ≡ t → touches g v e ≡ here g (lowEnd g e)
@@ -115,7 +122,8 @@ module _ {g : Network} (sound : Sound g) (two : g .remaining ≡ 2) where
   -- the last three edges are the partners at v
   pub last-is : lastEdges g ≡ partners g v
   unfolding lastEdges partners isPartner
-  last-is = pick-ext (g .edges) 0 _ _ (λ e a b. ap (λ t. t && not (eqb e (g .reserved))) (sym (touches-here e (omega arith))))
+  last-is = pick-ext (g .edges) 0 _ _
+      (λ e a b. ap (λ t. t && not (eqb e (g .reserved))) (sym (touches-here e (omega arith))))
 
   -- a cut parts the two
   parted : (S : Side) → Divides g S → differ (S v) (S o) ≡ 1
@@ -155,7 +163,8 @@ module _ {g : Network} (sound : Sound g) (two : g .remaining ≡ 2) where
     y-last = last-of g (w .y) (among-two (w .y) (λ e. w .at .four .xy (sym e)) ∙ unfold among in rw eqb-self)
 
     z-last : LastEdge g (w .z)
-    z-last = last-of g (w .z) (among-two (w .z) (λ e. w .at .four .xz (sym e)) ∙ unfold among in rw (eqb-self (w .z), or-true))
+    z-last = last-of g (w .z)
+        (among-two (w .z) (λ e. w .at .four .xz (sym e)) ∙ unfold among in rw (eqb-self (w .z), or-true))
 
     kept-reserved : kept K (g .reserved) ≡ false
     kept-reserved = k .rest (g .reserved) (λ p. p .not-reserved refl) (w .at .four .rx)
@@ -172,6 +181,7 @@ module _ {g : Network} (sound : Sound g) (two : g .remaining ≡ 2) where
         out : false ≡ among e (lastEdges g)
         out = sym (among-two e nd ∙ unfold among in rw (eqb-no ny, eqb-no nz))
 
+    -- the two kept edges join v and o, and a cut parts these
     end-twice : EveryCutOf 2 g (kept K)
     unfolding crossingsOf s
     end-twice S D =
@@ -187,20 +197,27 @@ module _ {g : Network} (sound : Sound g) (two : g .remaining ≡ 2) where
           sum-change-four (s .four) p (λ e. 0) (λ e l nr nx ny nz. rw (kept-other e nx ny nz)),
         )
 
-    kept-is : P (keptCost g K) + (N (costOf g (w .y)) + N (costOf g (w .z))) ≡ N (keptCost g K) + (P (costOf g (w .y)) + P (costOf g (w .z)))
+    kept-is : P (keptCost g K) + (N (costOf g (w .y)) + N (costOf g (w .z)))
+        ≡ N (keptCost g K) + (P (costOf g (w .y)) + P (costOf g (w .z)))
     unfolding costOver P N
     kept-is =
         let p : ℕ → ℤ = λ e. cond (kept K e) (costOf g e) (pos 0) in
-        let z = sumℤ-four (s .four) p (λ e l nr nx ny nz. rw (kept-other e nx ny nz)) (pos 0) (pos 0) (costOf g (w .y)) (costOf g (w .z)) (rw kept-reserved) (rw (k .dropped)) (rw kept-y) (rw kept-z) in
+        let z = sumℤ-four (s .four) p (λ e l nr nx ny nz. rw (kept-other e nx ny nz)) (pos 0) (pos 0) (costOf g (w .y))
+        (costOf g (w .z)) (rw kept-reserved) (rw (k .dropped)) (rw kept-y) (rw kept-z) in
         omega (arith, z)
 
-    all-is : P (allButReserved g) + (N (costOf g d) + N (costOf g (w .y)) + N (costOf g (w .z))) ≡ N (allButReserved g) + (P (costOf g d) + P (costOf g (w .y)) + P (costOf g (w .z)))
+    all-is : P (allButReserved g) + (N (costOf g d) + N (costOf g (w .y)) + N (costOf g (w .z)))
+        ≡ N (allButReserved g) + (P (costOf g d) + P (costOf g (w .y)) + P (costOf g (w .z)))
     unfolding costOver P N
     all-is =
         let p : ℕ → ℤ = λ e. cond (unreserved g e) (costOf g e) (pos 0) in
         let q = s .four in
-        let apart : (e : ℕ) → g .reserved ≢ e → p e ≡ costOf g e = λ e ne. ap (λ t. cond t (costOf g e) (pos 0)) (counted g e ne) in
-        let z = sumℤ-four q p (λ e l nr nx ny nz. rw (costless e l (s .rest e l nr nx ny nz)) (nothing (unreserved g e))) (pos 0) (costOf g d) (costOf g (w .y)) (costOf g (w .z)) (rw (eqb-self (g .reserved))) (apart d (q .rx)) (apart (w .y) (q .ry)) (apart (w .z) (q .rz)) in
+        let apart : (e : ℕ) → g .reserved ≢ e → p e ≡ costOf g e =
+        λ e ne. ap (λ t. cond t (costOf g e) (pos 0)) (counted g e ne) in
+        let z = sumℤ-four q p
+        (λ e l nr nx ny nz. rw (costless e l (s .rest e l nr nx ny nz)) (nothing (unreserved g e))) (pos 0)
+        (costOf g d) (costOf g (w .y)) (costOf g (w .z)) (rw (eqb-self (g .reserved))) (apart d (q .rx))
+        (apart (w .y) (q .ry)) (apart (w .z) (q .rz)) in
         omega (arith, z)
 
     -- twice a dearest is no less than the two others, so three times these are at most twice all three
@@ -220,7 +237,7 @@ module _ {g : Network} (sound : Sound g) (two : g .remaining ≡ 2) where
           ≤ℤ-is (r .no-dearer (w .z) z-last),
         ))
 
-  -- an ending by rule keeps a good set
+  -- an ending by rule keeps a good set: the other two cross every cut, and cost at most twice the dropped one
   pub end-good : {d : ℕ} {K : List Bool} → EndingByRule g d → EndKeeps g d K → Good g K
   end-good {d} r k =
       let ps = three-partners sound v-here o-here o≢v held-v in

@@ -1,23 +1,25 @@
 -- Document 01's district examples over meanings.
 use mathlib.Core.Path.{_≡_, refl}
-use mathlib.Core.Bool.{Bool, true, false, _&&_, Bool·beq}
+use mathlib.Core.Bool.{Bool, true, false, _&&_}
 use mathlib.Core.List.{List, [], _∷_, map}
 use Prim.Native.Nat.{ℕ}
 use lib.Dec.{eqb}
 use lib.IntN.{ℤ}
 use lib.Signed.{leZ}
 use lib.ListN.{length, replicate}
-use Rattle.graph.specs.Fold.{fold, pick, only, among, tabulate}
+use Rattle.base.specs.Answer.{Answer, answer, refused, unless}
+use Rattle.base.specs.Fold.{fold, pick, only, among, tabulate}
 use Rattle.graph.specs.Network.{endsAt, degree, touches, far, costOver, keptCost, allButReserved, kept}
-use Rattle.graph.specs.Cut.{differ, crosses, crossingsOf, everySide, somewhere, crossedBy, everyCutOf, fourEach, networkRefusal}
+use Rattle.graph.specs.Cut.{differ, crosses, crossingsOf, everySide, somewhere, crossedBy, everyCutOf, fourEach}
+use Rattle.graph.specs.Cut.{networkRefusal}
 use Rattle.graph.specs.Split.{isPartner, partners, split, splitWith, admissible, third, after}
-use Rattle.graph.specs.Chain.{stepRefusal, lastEdges, dearest, endRefusal, marks, endKept, lift, Verdict, refused, keeps, liftVerdict, unless, check}
-use Rattle.graph.specs.Plan.{chosenVertex, ordered, chosenStep, dearestOf, chosenDrop, planSteps, planDrop}
-use Rattle.graph.specs.Connection.{leads, grown, within, reached, connected, reachedCount, critical, criticalCount}
-use Rattle.graph.specs.Districts.{District, T, Case, plans, breaks, refuses, table, unmarked, Audit, audits, every}
+use Rattle.graph.specs.Chain.{stepRefusal, lastEdges, dearest, endRefusal, marks, endKept, lift, lifted, check}
+use Rattle.graph.specs.Plan.{chosenVertex, ordered, chosenPair, chosenStep, dearestOf, chosenDrop, planSteps}
+use Rattle.graph.specs.Plan.{planDrop}
+use Rattle.graph.specs.Districts.{District, T, Case, plans, breaks, refuses, table, unmarked, every}
 use Rattle.graph.specs.declared.Network.{Network}
 use Rattle.graph.specs.declared.Step.{Step}
-use Rattle.graph.proofs.Bools.{and-left, and-right}
+use Rattle.base.proofs.Bools.{and-left, and-right}
 
 -- a district as a network whose vertices are all present
 unfoldable pub networkOf : District → Network
@@ -51,14 +53,14 @@ sameSteps [] (s ∷ ss) = false
 sameSteps (t ∷ ts) [] = false
 sameSteps (t ∷ ts) (s ∷ ss) = eqb (t .v) (s .v) && eqb (t .x) (s .x) && eqb (t .y) (s .y) && sameSteps ts ss
 
-unfoldable pub keepsJust : Network → List ℕ → ℤ → ℤ → Verdict → Bool
+unfoldable pub keepsJust : Network → List ℕ → ℤ → ℤ → Answer (List Bool) → Bool
 keepsJust g is c a (refused k) = false
-keepsJust g is c a (keeps K) =
+keepsJust g is c a (answer K) =
     sameNumbers (pick (length K) 0 (kept K)) is && sameCost (keptCost g K) c && sameCost (allButReserved g) a
 
-unfoldable pub refusedBy : ℕ → Verdict → Bool
+unfoldable pub refusedBy : ℕ → Answer (List Bool) → Bool
 refusedBy k (refused j) = eqb k j
-refusedBy k (keeps K) = false
+refusedBy k (answer K) = false
 
 unfoldable pub holds : Case → Bool
 holds (plans p ts d is c a) =
@@ -69,29 +71,24 @@ holds (plans p ts d is c a) =
 holds (breaks t d k) = refusedBy k (check (networkOf T) (stepOf t ∷ []) d)
 holds (refuses p k) = eqb (networkRefusal (networkOf p)) k
 
-unfoldable pub auditHolds : Audit → Bool
-auditHolds row =
-    let g = networkOf T in
-    let K = marks g (row .0) in
-    Bool·beq (connected g K) (row .1) && eqb (reachedCount g K) (row .2) && eqb (criticalCount g K) (row .3)
-
 -- each row of the table of marked examples
 pub examples : every holds table ≡ true
-unfolding every networkOf stepOf sameNumbers sameCost sameSteps keepsJust refusedBy holds fold pick only among tabulate endsAt degree touches far costOver differ crosses crossingsOf everySide somewhere crossedBy everyCutOf fourEach networkRefusal isPartner partners split splitWith admissible third after stepRefusal lastEdges dearest endRefusal marks endKept lift liftVerdict unless check chosenVertex ordered chosenStep dearestOf chosenDrop planSteps planDrop
+unfolding every networkOf stepOf sameNumbers sameCost sameSteps keepsJust refusedBy holds fold pick only among tabulate
+    endsAt degree touches far costOver differ crosses crossingsOf everySide somewhere crossedBy everyCutOf fourEach
+    networkRefusal isPartner partners split splitWith admissible third after stepRefusal lastEdges dearest endRefusal
+    marks endKept lift lifted unless check chosenVertex ordered chosenPair chosenStep dearestOf chosenDrop planSteps
+    planDrop
 examples = refl
 
 -- y is tested as x is
 pub y-tested : every holds unmarked ≡ true
-unfolding every networkOf stepOf refusedBy holds fold pick only among touches far differ crosses crossingsOf everySide somewhere crossedBy everyCutOf isPartner partners split splitWith admissible stepRefusal liftVerdict unless check
+unfolding every networkOf stepOf refusedBy holds fold pick only among touches far differ crosses crossingsOf everySide
+    somewhere crossedBy everyCutOf isPartner partners split splitWith admissible stepRefusal lifted unless check
 y-tested = refl
 
--- the audits, which document 01 does not mark
-pub audited : every auditHolds audits ≡ true
-unfolding every networkOf auditHolds fold only among tabulate touches far marks leads grown within reached connected reachedCount critical criticalCount
-audited = refl
-
 -- two tests that hold of every row hold of it together
-pub every-both : {A : Type 0} (p q : A → Bool) (rows : List A) → every p rows ≡ true → every q rows ≡ true → every (λ r. p r && q r) rows ≡ true
+pub every-both : {A : Type 0} (p q : A → Bool) (rows : List A) → every p rows ≡ true → every q rows ≡ true
+    → every (λ r. p r && q r) rows ≡ true
 unfolding every
 every-both p q [] h k = refl
 every-both p q (r ∷ rows) h k =

@@ -4,13 +4,13 @@ use mathlib.Core.Bool.{true, false}
 use mathlib.Core.List.{[], _∷_}
 use Prim.Native.Nat.{ℕ, _≤_, _<_}
 use native.Mathlib.Omega.{arith}
-use Rattle.graph.specs.Fold.{without}
+use Rattle.base.specs.Fold.{without}
 use Rattle.graph.specs.Network.{lowEnd, highEnd, here}
 use Rattle.graph.specs.Cut.{Side, differ, crossings}
 use Rattle.graph.specs.Split.{partners, split, Admissible, admissible}
 use Rattle.graph.specs.Sound.{Sound}
 use Rattle.graph.specs.declared.Network.{Network}
-use Rattle.graph.proofs.Bools.{unless-false}
+use Rattle.base.proofs.Bools.{unless-false}
 use Rattle.graph.proofs.EveryCut.{every-cut-sound}
 use Rattle.graph.proofs.Stars.{Runs, forward, backward, Star, crossings-split, split-reserved, split-z}
 use Rattle.graph.proofs.Partners.{another, no-loop}
@@ -23,7 +23,7 @@ module _ {g : Network} (sound : Sound g) {v x y z u a b c : ℕ} (s : Star g v x
   abbrev pub Pairs : Type 0
   Pairs = (S : Side) → S u ≡ true → S a ≡ true → S b ≡ false → S c ≡ false → 4 ≤ crossings (split g v x y z) S
 
-  -- only these cuts need be tried
+  -- only these cuts need be tried: where x is not admissible one of them is tight, and 4 - 2 edges cross it after
   pub pairs-suffice : Pairs → admissible g v x ≡ true
   unfolding differ
   pairs-suffice h = unless-false (admissible g v x) (λ e.
@@ -36,6 +36,7 @@ module _ {g : Network} (sound : Sound g) {v x y z u a b c : ℕ} (s : Star g v x
         rw (t .v-out, t .u-in, t .a-in, t .b-out, t .c-out) at (crossings-split (sound .formed) s (w .0)),
       ))
 
+  -- and they must be: u and b are present after the split, so such a side makes a cut of it
   pub pairs-needed : admissible g v x ≡ true → Pairs
   unfolding admissible
   pairs-needed h S hu ha hb hc =
@@ -51,7 +52,9 @@ module _ {g : Network} (sound : Sound g) {v x y z u a b c : ℕ} (s : Star g v x
 
   -- a split that makes a loop, with a third vertex present, is not admissible
   module _ (three : 3 ≤ g .remaining) where
-    loop-fails : {e w : ℕ} → e < g .edges → here (split g v x y z) w ≡ true → Runs (split g v x y z) e w w → Admissible g v x → ⊥
+    -- an admissible split leaves a sound network, and a vertex of it has no loop where another is present
+    loop-fails : {e w : ℕ} → e < g .edges → here (split g v x y z) w ≡ true → Runs (split g v x y z) e w w
+        → Admissible g v x → ⊥
     unfolding split
     loop-fails {e} {w} l hw t h =
         let after = sound-after sound s v-here (rw (split-with g v x others) at h) in
@@ -64,8 +67,10 @@ module _ {g : Network} (sound : Sound g) {v x y z u a b c : ℕ} (s : Star g v x
 
     -- the far ends of the reserved edge and x coincide
     pub loop-reserved : a ≡ u → Admissible g v x → ⊥
-    loop-reserved q = loop-fails (s .four .r<) (far-stays sound s v-here (s .four .r<) (s .to-u) (s .u≢)) (rw q at (split-reserved (sound .formed) s))
+    loop-reserved q = loop-fails (s .four .r<) (far-stays sound s v-here (s .four .r<) (s .to-u) (s .u≢))
+        (rw q at (split-reserved (sound .formed) s))
 
     -- the far ends of y and z coincide
     pub loop-others : c ≡ b → Admissible g v x → ⊥
-    loop-others q = loop-fails (s .four .z<) (far-stays sound s v-here (s .four .y<) (s .to-b) (s .b≢)) (rw q at (split-z (sound .formed) s))
+    loop-others q = loop-fails (s .four .z<) (far-stays sound s v-here (s .four .y<) (s .to-b) (s .b≢))
+        (rw q at (split-z (sound .formed) s))

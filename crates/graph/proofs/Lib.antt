@@ -1,5 +1,3 @@
-pub mod Bools
-pub mod Sums
 pub mod EveryCut
 pub mod Stars
 pub mod Parity
@@ -7,7 +5,6 @@ pub mod Partners
 pub mod Splitting
 pub mod Lemma8
 pub mod Lemma9
-pub mod Integers
 pub mod Lifting
 pub mod Endings
 pub mod Rules

@@ -13,15 +13,17 @@ use Rattle.graph.specs.Split.{costAfter, split}
 use Rattle.graph.specs.Back.{StepKeeps}
 use Rattle.graph.specs.Sound.{Formed, Sound, weight}
 use Rattle.graph.specs.declared.Network.{Network}
-use Rattle.graph.proofs.Bools.{never}
-use Rattle.graph.proofs.Sums.{sum-change-four}
-use Rattle.graph.proofs.Integers.{P, N, nothing, plus, minus, times-P, times-N, halves, eqℤ, ≤ℤ-is, is-≤ℤ, size-minus, sumℤ-change-four}
-use Rattle.graph.proofs.Stars.{differ-same, Runs, runs-crosses, Star, counted, cost-z, cost-x, cost-y, cost-other, cost-reserved, split-z, split-x, split-y, split-crosses}
+use Rattle.base.proofs.Bools.{never}
+use Rattle.base.proofs.Sums.{sum-change-four}
+use Rattle.base.proofs.Integers.{P, N, nothing, plus, minus, times-P, times-N, halves, eqℤ, ≤ℤ-is, is-≤ℤ, size-minus}
+use Rattle.base.proofs.Integers.{sumℤ-change-four}
+use Rattle.graph.proofs.Stars.{differ-same, Runs, runs-crosses, Star, counted, cost-z, cost-x, cost-y}
+use Rattle.graph.proofs.Stars.{cost-other, cost-reserved, split-z, split-x, split-y, split-crosses}
 use Rattle.graph.proofs.Splitting.{still-here, far-here}
 
 -- ── costs ──
 module _ {g : Network} (f : Formed g) {v x y z u a b c : ℕ} (s : Star g v x y z u a b c) where
-  -- all but the reserved: before = after + 2 c(x) + c(y)
+  -- all but the reserved: before = after + 2 c(x) + c(y), as z alone is left of three, at c(z) - c(x)
   pub all-cost : allButReserved g ≡ allButReserved (split g v x y z) +ℤ costOf g x +ℤ costOf g x +ℤ costOf g y
   unfolding costOver split P N
   all-cost =
@@ -39,7 +41,8 @@ module _ {g : Network} (f : Formed g) {v x y z u a b c : ℕ} (s : Star g v x y 
       let qy : q y ≡ pos 0 = rw (cost-y f s) (nothing (unreserved g y)) in
       let pz : p z ≡ cz = ap (λ t. cond t cz (pos 0)) (counted g z (w .rz)) in
       let qz : q z ≡ costAfter cx cy cz = ap₂ (λ t k. cond t k (pos 0)) (counted g z (w .rz)) (cost-z f s) in
-      let e = sumℤ-change-four w p q (λ e l nr nx ny nz. ap (λ k. cond (unreserved g e) k (pos 0)) (sym (cost-other f s e nx ny nz))) in
+      let e = sumℤ-change-four w p q
+      (λ e l nr nx ny nz. ap (λ k. cond (unreserved g e) k (pos 0)) (sym (cost-other f s e nx ny nz))) in
       eqℤ _ _ (omega (
         arith,
         e,
@@ -58,7 +61,7 @@ module _ {g : Network} (f : Formed g) {v x y z u a b c : ℕ} (s : Star g v x y 
 
   -- going back through the step, from the marks K to the marks L
   module _ {K L : List Bool} (k : StepKeeps x y z K L) where
-    -- kept cost before = kept cost after + c(x) + c(y), both ways
+    -- kept cost before = kept cost after + c(x) + c(y), both ways: z gains c(x) if it is kept, and else x is kept
     pub kept-cost : keptCost g L ≡ keptCost (split g v x y z) K +ℤ costOf g x +ℤ costOf g y
     unfolding costOver split P N
     kept-cost =
@@ -68,12 +71,14 @@ module _ {g : Network} (f : Formed g) {v x y z u a b c : ℕ} (s : Star g v x y 
         let cx = costOf g x in
         let cy = costOf g y in
         let cz = costOf g z in
-        let pr : p (g .reserved) ≡ q (g .reserved) = rw (k .others (g .reserved) (s .four .rx) (s .four .ry), (cost-reserved f s)) in
+        let pr : p (g .reserved) ≡ q (g .reserved) =
+        rw (k .others (g .reserved) (s .four .rx) (s .four .ry), (cost-reserved f s)) in
         let px : p x ≡ cond (not (kept K z)) cx (pos 0) = rw (k .x-kept) in
         let qx : q x ≡ pos 0 = rw (cost-x f s) (nothing (kept K x)) in
         let py : p y ≡ cy = rw (k .y-kept) in
         let qy : q y ≡ pos 0 = rw (cost-y f s) (nothing (kept K y)) in
-        let pz : p z ≡ cond (kept K z) cz (pos 0) = rw (k .others z (λ e. s .four .xz (sym e)) (λ e. s .four .yz (sym e))) in
+        let pz : p z ≡ cond (kept K z) cz (pos 0) =
+        rw (k .others z (λ e. s .four .xz (sym e)) (λ e. s .four .yz (sym e))) in
         let qz : q z ≡ cond (kept K z) (costAfter cx cy cz) (pos 0) = rw (cost-z f s) in
         let e = sumℤ-change-four (s .four) p q (λ e l nr nx ny nz. rw (k .others e nx ny, cost-other f s e nx ny nz)) in
         let mid : p x +ℤ p z ≡ q z +ℤ cx = ap₂ _+ℤ_ px pz ∙ exchange (kept K z) cx cy cz ∙ ap (λ k. k +ℤ cx) (sym qz) in
@@ -92,12 +97,16 @@ module _ {g : Network} (f : Formed g) {v x y z u a b c : ℕ} (s : Star g v x y 
         ))
       where
         -- x and z are kept in one another's place
-        exchange : (z-kept : Bool) (cx cy cz : ℤ) → cond (not z-kept) cx (pos 0) +ℤ cond z-kept cz (pos 0) ≡ cond z-kept (costAfter cx cy cz) (pos 0) +ℤ cx
-        exchange true cx cy cz = unfold P N in eqℤ _ _ (omega (arith, plus (pos 0) cz, minus cz cx, plus (costAfter cx cy cz) cx))
+        exchange : (z-kept : Bool) (cx cy cz : ℤ)
+            → cond (not z-kept) cx (pos 0) +ℤ cond z-kept cz (pos 0) ≡ cond z-kept (costAfter cx cy cz) (pos 0) +ℤ cx
+        exchange true cx cy cz =
+            unfold P N in eqℤ _ _ (omega (arith, plus (pos 0) cz, minus cz cx, plus (costAfter cx cy cz) cx))
         exchange false cx cy cz = unfold P N in eqℤ _ _ (omega (arith, plus cx (pos 0), plus (pos 0) cx))
 
-    -- the ratio goes back through a step with c(y) at most c(x)
-    pub ratio-step : costOf g y ≤ℤ costOf g x → (pos 3 *ℤ keptCost (split g v x y z) K) ≤ℤ (pos 2 *ℤ allButReserved (split g v x y z))
+    -- the ratio goes back through a step with c(y) at most c(x): three times the kept cost gains 3 c(x) + 3 c(y), and
+    -- twice the cost of all but the reserved gains 4 c(x) + 2 c(y)
+    pub ratio-step : costOf g y ≤ℤ costOf g x
+        → (pos 3 *ℤ keptCost (split g v x y z) K) ≤ℤ (pos 2 *ℤ allButReserved (split g v x y z))
         → (pos 3 *ℤ keptCost g L) ≤ℤ (pos 2 *ℤ allButReserved g)
     ratio-step h ratio =
         let cx = costOf g x in
@@ -127,7 +136,7 @@ module _ {g : Network} (f : Formed g) {v x y z u a b c : ℕ} (s : Star g v x y 
           plus (A +ℤ cx +ℤ cx) cy,
         ))
 
-  -- working costs: the sum of the sizes never grows
+  -- working costs: the sum of the sizes never grows, as c(z) - c(x) has at most the sizes of c(z) and c(x) together
   pub weight-after : weight (split g v x y z) ≤ weight g
   unfolding weight split
   weight-after =
@@ -146,7 +155,8 @@ module _ {g : Network} (f : Formed g) {v x y z u a b c : ℕ} (s : Star g v x y 
 -- ── crossing counts ──
 
 -- z is kept: k cross before, j after
-lift-kept : (v b c : Bool) (k j : ℕ) → k + differ b c ≡ j + (differ v b + differ v c) → (b ≡ v → 2 ≤ j) → (c ≡ v → 2 ≤ j) → 2 ≤ k
+lift-kept : (v b c : Bool) (k j : ℕ) → k + differ b c ≡ j + (differ v b + differ v c) → (b ≡ v → 2 ≤ j)
+    → (c ≡ v → 2 ≤ j) → 2 ≤ k
 unfolding differ
 lift-kept true true true k j e p q = omega (arith, p refl)
 lift-kept true true false k j e p q = omega (arith, p refl)
@@ -168,7 +178,8 @@ lift-left-out false true false k j e p q = omega (arith, q refl)
 lift-left-out false true true k j e p q = omega arith
 
 -- a cut with v and another present vertex in one part is a cut of what is left
-divides-after : (g : Network) (v x y z w : ℕ) (S : Side) → here g w ≡ true → w ≢ v → Divides g S → S w ≡ S v → Divides (split g v x y z) S
+divides-after : (g : Network) (v x y z w : ℕ) (S : Side) → here g w ≡ true → w ≢ v → Divides g S → S w ≡ S v
+    → Divides (split g v x y z) S
 divides-after g v x y z w S hw ne d e = go (S v) refl
   where
     go : (t : Bool) → S v ≡ t → Divides (split g v x y z) S
@@ -191,8 +202,10 @@ divides-after g v x y z w S hw ne d e = go (S v) refl
 
 module _ {g : Network} (sound : Sound g) {v x y z u a b c : ℕ} (s : Star g v x y z u a b c) (v-here : here g v ≡ true)
     {K L : List Bool} (k : StepKeeps x y z K L) (free : kept K (g .reserved) ≡ false) where
+  -- the kept crossing count before a step: y and z stand for z where it is kept, and else x and y come besides
   kept-crossings : (S : Side) → keptCrossings g L S + cond (kept K z) (differ (S b) (S c)) 0
-      ≡ keptCrossings (split g v x y z) K S + (cond (not (kept K z)) (differ (S v) (S a)) 0 + differ (S v) (S b) + cond (kept K z) (differ (S v) (S c)) 0)
+      ≡ keptCrossings (split g v x y z) K S +
+      (cond (not (kept K z)) (differ (S v) (S a)) 0 + differ (S v) (S b) + cond (kept K z) (differ (S v) (S c)) 0)
   unfolding crossingsOf split
   kept-crossings S =
       let f = sound .formed in
@@ -205,7 +218,8 @@ module _ {g : Network} (sound : Sound g) {v x y z u a b c : ℕ} (s : Star g v x
       let qx : q x ≡ 0 = none (kept K x) _ (runs-crosses S (split-x f s) ∙ differ-same (S v)) in
       let py : p y ≡ differ (S v) (S b) = rw (k .y-kept, runs-crosses S (s .to-b)) in
       let qy : q y ≡ 0 = none (kept K y) _ (runs-crosses S (split-y f s) ∙ differ-same (S v)) in
-      let pz : p z ≡ cond (kept K z) (differ (S v) (S c)) 0 = rw (k .others z (λ e. s .four .xz (sym e)) (λ e. s .four .yz (sym e)), runs-crosses S (s .to-c)) in
+      let pz : p z ≡ cond (kept K z) (differ (S v) (S c)) 0 =
+      rw (k .others z (λ e. s .four .xz (sym e)) (λ e. s .four .yz (sym e)), runs-crosses S (s .to-c)) in
       let qz : q z ≡ cond (kept K z) (differ (S b) (S c)) 0 = rw (runs-crosses S (split-z f s)) in
       omega (
         arith,
@@ -217,14 +231,16 @@ module _ {g : Network} (sound : Sound g) {v x y z u a b c : ℕ} (s : Star g v x
         qy,
         pz,
         qz,
-        sum-change-four (s .four) p q (λ e l nr nx ny nz. ap₂ (λ t n. cond t n 0) (k .others e nx ny) (sym (split-crosses f s S e nr nx ny nz))),
+        sum-change-four (s .four) p q
+            (λ e l nr nx ny nz. ap₂ (λ t n. cond t n 0) (k .others e nx ny) (sym (split-crosses f s S e nr nx ny nz))),
       )
     where
       zero : (t : Bool) → cond {A = ℕ} t 0 0 ≡ 0
       zero true = refl
       zero false = refl
 
-  -- every cut crossed at least twice by the kept edges: before the step too
+  -- every cut crossed at least twice by the kept edges: before the step too. The two edges kept at v cross no less than
+  -- z did. If the far end of one lies in the part of v, S is a cut of what is left; if neither does, both cross
   pub lift-cuts : EveryCutOf 2 (split g v x y z) (kept K) → EveryCutOf 2 g (kept L)
   lift-cuts h S d = go (kept K z) refl
     where
@@ -232,5 +248,7 @@ module _ {g : Network} (sound : Sound g) {v x y z u a b c : ℕ} (s : Star g v x
       after {w = w} l t ne e = h S (divides-after g v x y z w S (far-here sound s v-here l t) ne d e)
 
       go : (t : Bool) → kept K z ≡ t → 2 ≤ keptCrossings g L S
-      go true e = lift-kept (S v) (S b) (S c) _ _ (let w = rw e at (kept-crossings S) in omega arith) (after (s .four .y<) (s .to-b) (s .b≢)) (after (s .four .z<) (s .to-c) (s .c≢))
-      go false e = lift-left-out (S v) (S b) (S a) _ _ (let w = rw e at (kept-crossings S) in omega arith) (after (s .four .y<) (s .to-b) (s .b≢)) (after (s .four .x<) (s .to-a) (s .a≢))
+      go true e = lift-kept (S v) (S b) (S c) _ _ (let w = rw e at (kept-crossings S) in omega arith)
+          (after (s .four .y<) (s .to-b) (s .b≢)) (after (s .four .z<) (s .to-c) (s .c≢))
+      go false e = lift-left-out (S v) (S b) (S a) _ _ (let w = rw e at (kept-crossings S) in omega arith)
+          (after (s .four .y<) (s .to-b) (s .b≢)) (after (s .four .x<) (s .to-a) (s .a≢))

@@ -6,7 +6,7 @@ use Prim.Native.Nat.{ℕ, _≤_}
 use native.Mathlib.Omega.{arith}
 use lib.Dec.{eqb}
 use lib.Signed.{ltZ}
-use Rattle.graph.specs.Fold.{among}
+use Rattle.base.specs.Fold.{among}
 use Rattle.graph.specs.Network.{costOf, touches}
 use Rattle.graph.specs.Cut.{everyCut, fourEach, networkRefusal}
 use Rattle.graph.specs.Split.{partners, admissible}

@@ -8,7 +8,7 @@ use native.Mathlib.Numerals.{add-one}
 use native.Mathlib.Omega.{arith}
 use borrow.Author.Tests.{ne-eqb}
 use lib.ListN.{length, length-append}
-use Rattle.graph.specs.Fold.{pick}
+use Rattle.base.specs.Fold.{pick}
 use Rattle.graph.specs.State.{firstThree, oneMore}
 use Rattle.graph.specs.declared.incidence.Partners.{Partners}
 

@@ -9,15 +9,15 @@ use native.Mathlib.Decide.{decLe}
 use lib.ListN.{length, getD}
 use lib.IntN.{ℤ}
 use lib.Signed.{_≤ℤ_, leZ, ltZ}
-use Rattle.graph.specs.Fold.{bit, only, among}
+use Rattle.base.specs.Fold.{bit, only, among}
 use Rattle.graph.specs.Network.{lowEnd, highEnd, costOf, touches}
 use Rattle.graph.specs.Split.{partners, admissible}
 use Rattle.graph.specs.Chain.{lastEdges, dearest, endRefusal, StepByRule}
-use Rattle.graph.specs.Plan.{chosenVertex, ordered, chosenStep, dearestOf, chosenDrop}
+use Rattle.graph.specs.Plan.{chosenVertex, ordered, chosenPair, chosenStep, dearestOf, chosenDrop}
 use Rattle.graph.specs.Sound.{Sound}
 use Rattle.graph.specs.declared.Network.{Network}
-use Rattle.graph.proofs.Bools.{eqb-self}
-use Rattle.graph.proofs.Integers.{le-test, le-is, le-isnt, lt-is, lt-isnt, is-≤ℤ}
+use Rattle.base.proofs.Bools.{eqb-self}
+use Rattle.base.proofs.Integers.{le-test, le-is, le-isnt, lt-is, lt-isnt, is-≤ℤ}
 use Rattle.graph.proofs.Partners.{another, touches-ends, three-partners, star}
 use Rattle.graph.proofs.Lemma8.{lemma8}
 use Rattle.graph.proofs.Endings.{v-here, o-here, o≢v, held-v, last-is}
@@ -69,24 +69,27 @@ chosen-end g =
       | no k ↦ let q : max l h ≡ l = omega arith in rw (q, eqb-self l)
     ]
 
--- the first two admissible partners at the chosen vertex
-pub usable-pair : {g : Network} → Sound g → 2 ≤ g .remaining
-    → let v = chosenVertex g in let us = only (admissible g v) (partners g v) in Pair (admissible g v) (partners g v) (getD us 0 0) (getD us 1 0)
-usable-pair {g} sound two =
+-- the first two admissible partners at the chosen vertex, which Lemma 8 says are there
+pub chosen-partners : {g : Network} → Sound g → 2 ≤ g .remaining
+    → let v = chosenVertex g in Pair (admissible g v) (partners g v) (chosenPair g .0) (chosenPair g .1)
+unfolding chosenPair
+chosen-partners {g} sound two =
     let v = chosenVertex g in
     let held = chosen-end g in
     let hv = end-here sound v held in
     let o = another (sound .formed) two v hv in
     let ps = three-partners sound hv (o .1) (o .2) held in
     let f = star sound hv (o .1) (o .2) held (ps .3) .four in
-    rw (ps .3) (first-two (admissible g v) (ps .0) (ps .1) (ps .2) (f .xy) (f .xz) (f .yz) (lemma8 sound hv (o .1) (o .2) held (ps .3)))
+    rw (ps .3) (first-two (admissible g v) (ps .0) (ps .1) (ps .2) (f .xy) (f .xz) (f .yz)
+    (lemma8 sound hv (o .1) (o .2) held (ps .3)))
 
 ordered-ruled : {g : Network} → Sound g → 2 ≤ g .remaining → (v i j : ℕ) → touches g v (g .reserved) ≡ true
     → Pair (admissible g v) (partners g v) i j → StepByRule g (ordered g v i j)
 unfolding ordered
 ordered-ruled {g} sound two v i j held w = go (ltZ (costOf g i) (costOf g j)) refl
   where
-    by : (x y : ℕ) → among x (partners g v) ≡ true → among y (partners g v) ≡ true → x ≢ y → admissible g v x ≡ true → admissible g v y ≡ true
+    by : (x y : ℕ) → among x (partners g v) ≡ true → among y (partners g v) ≡ true → x ≢ y → admissible g v x ≡ true
+        → admissible g v y ≡ true
         → costOf g y ≤ℤ costOf g x → StepByRule g (record { v = v; x = x; y = y })
     by x y x-in y-in ne x-ok y-ok le = record {
       at-end = touches-ends g v (g .reserved) held;
@@ -98,13 +101,16 @@ ordered-ruled {g} sound two v i j held w = go (ltZ (costOf g i) (costOf g j)) re
       no-cheaper = le;
     }
 
-    go : (t : Bool) → ltZ (costOf g i) (costOf g j) ≡ t → StepByRule g (cond t (record { v = v; x = j; y = i }) (record { v = v; x = i; y = j }))
-    go true e = by j i (w .j-in) (w .i-in) (λ k. w .i≢j (sym k)) (w .j-ok) (w .i-ok) (is-≤ℤ (omega (arith, lt-is (costOf g i) (costOf g j) e)))
+    go : (t : Bool) → ltZ (costOf g i) (costOf g j) ≡ t
+        → StepByRule g (cond t (record { v = v; x = j; y = i }) (record { v = v; x = i; y = j }))
+    go true e = by j i (w .j-in) (w .i-in) (λ k. w .i≢j (sym k)) (w .j-ok) (w .i-ok)
+        (is-≤ℤ (omega (arith, lt-is (costOf g i) (costOf g j) e)))
     go false e = by i j (w .i-in) (w .j-in) (w .i≢j) (w .i-ok) (w .j-ok) (is-≤ℤ (lt-isnt (costOf g i) (costOf g j) e))
 
+-- the planner's step keeps the rules: the dearer of two admissible partners is x
 pub chosen-ruled : {g : Network} → Sound g → 2 ≤ g .remaining → StepByRule g (chosenStep g)
 unfolding chosenStep
-chosen-ruled {g} sound two = ordered-ruled sound two (chosenVertex g) _ _ (chosen-end g) (usable-pair sound two)
+chosen-ruled {g} sound two = ordered-ruled sound two (chosenVertex g) _ _ (chosen-end g) (chosen-partners sound two)
 
 -- ── the ending ──
 leZ-trans : (a b c : ℤ) → leZ a b ≡ true → leZ b c ≡ true → leZ a c ≡ true
@@ -118,29 +124,36 @@ module _ (g : Network) where
   dearer : ℕ → ℕ → ℕ
   dearer d i = cond (leZ (costOf g d) (costOf g i)) i d
 
-  dearer-both : (d i : ℕ) → (leZ (costOf g d) (costOf g (dearer d i)) ≡ true) × (leZ (costOf g i) (costOf g (dearer d i)) ≡ true)
+  dearer-both : (d i : ℕ)
+      → (leZ (costOf g d) (costOf g (dearer d i)) ≡ true) × (leZ (costOf g i) (costOf g (dearer d i)) ≡ true)
   unfolding dearer
   dearer-both d i = go (leZ (costOf g d) (costOf g i)) refl
     where
-      go : (t : Bool) → leZ (costOf g d) (costOf g i) ≡ t → (leZ (costOf g d) (costOf g (cond t i d)) ≡ true) × (leZ (costOf g i) (costOf g (cond t i d)) ≡ true)
+      go : (t : Bool) → leZ (costOf g d) (costOf g i) ≡ t
+          → (leZ (costOf g d) (costOf g (cond t i d)) ≡ true) × (leZ (costOf g i) (costOf g (cond t i d)) ≡ true)
       go true e = (e, leZ-refl (costOf g i))
       go false e = (leZ-refl (costOf g d), le-test (costOf g i) (costOf g d) (le-isnt (costOf g d) (costOf g i) e))
 
   found-ge : (d : ℕ) (l : List ℕ) → leZ (costOf g d) (costOf g (dearestOf g d l)) ≡ true
   unfolding dearestOf dearer
   found-ge d [] = leZ-refl (costOf g d)
-  found-ge d (i ∷ l) = leZ-trans (costOf g d) (costOf g (dearer d i)) (costOf g (dearestOf g (dearer d i) l)) (dearer-both d i .0) (found-ge (dearer d i) l)
+  found-ge d (i ∷ l) =
+      leZ-trans (costOf g d) (costOf g (dearer d i)) (costOf g (dearestOf g (dearer d i) l)) (dearer-both d i .0)
+      (found-ge (dearer d i) l)
 
   found-dearest : (d : ℕ) (l : List ℕ) → dearest g (dearestOf g d l) l ≡ true
   unfolding dearestOf dearest dearer
   found-dearest d [] = refl
   found-dearest d (i ∷ l) =
-      rw (leZ-trans (costOf g i) (costOf g (dearer d i)) (costOf g (dearestOf g (dearer d i) l)) (dearer-both d i .1) (found-ge (dearer d i) l)) (found-dearest (dearer d i) l)
+      rw (leZ-trans (costOf g i) (costOf g (dearer d i)) (costOf g (dearestOf g (dearer d i) l)) (dearer-both d i .1)
+      (found-ge (dearer d i) l)) (found-dearest (dearer d i) l)
 
-  found-among : (m : List ℕ) (d : ℕ) (l : List ℕ) → among d m ≡ true → ((e : ℕ) → among e l ≡ true → among e m ≡ true) → among (dearestOf g d l) m ≡ true
+  found-among : (m : List ℕ) (d : ℕ) (l : List ℕ) → among d m ≡ true → ((e : ℕ) → among e l ≡ true → among e m ≡ true)
+      → among (dearestOf g d l) m ≡ true
   unfolding dearestOf among dearer
   found-among m d [] h k = h
-  found-among m d (i ∷ l) h k = found-among m (dearer d i) l (go (leZ (costOf g d) (costOf g i)) refl) (λ e q. k e (rw (q, or-true)))
+  found-among m d (i ∷ l) h k =
+      found-among m (dearer d i) l (go (leZ (costOf g d) (costOf g i)) refl) (λ e q. k e (rw (q, or-true)))
     where
       go : (t : Bool) → leZ (costOf g d) (costOf g i) ≡ t → among (dearer d i) m ≡ true
       go true e = rw e (k i (rw eqb-self))
@@ -151,7 +164,7 @@ unfolding among
 head-among [] h = absurd (omega arith)
 head-among (x ∷ l) h = rw eqb-self
 
--- the planner's ending is not refused
+-- the planner's ending is not refused: what it drops is among the last three and none of them is dearer
 pub chosen-drop-passes : {g : Network} → Sound g → g .remaining ≡ 2 → endRefusal g (chosenDrop g) ≡ 0
 unfolding endRefusal chosenDrop
 chosen-drop-passes {g} sound two =

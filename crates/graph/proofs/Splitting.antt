@@ -1,4 +1,5 @@
--- Splitting off a vertex: who is present afterwards, degrees, and that a split with an admissible partner leaves a sound network.
+-- Splitting off a vertex: who is present afterwards, degrees, and that
+-- a split with an admissible partner leaves a sound network.
 use mathlib.Core.Path.{_≡_, sym, _∙_, ap, ap₂}
 use mathlib.Core.Logic.{_≢_, inl, inr, ⊎-elim}
 use mathlib.Core.Bool.{Bool, true, false, cond}
@@ -9,20 +10,22 @@ use native.Mathlib.Decide.{ℕ-discrete}
 use lib.Dec.{eqb}
 use lib.ListN.{length, getD, set, length-set}
 use lib.Seq.{getD-set-same, getD-set-other}
-use Rattle.graph.specs.Fold.{sum, bit, without}
+use Rattle.base.specs.Fold.{sum, bit, without}
 use lib.IntN.{pos}
 use Rattle.graph.specs.Network.{lowEnd, highEnd, costOf, here, endsAt, degree}
 use Rattle.graph.specs.Cut.{Side, differ, crosses, crossingsOf, EveryCut}
 use Rattle.graph.specs.Split.{partners, split, splitWith}
 use Rattle.graph.specs.Sound.{Formed, Joins, Sound}
 use Rattle.graph.specs.declared.Network.{Network}
-use Rattle.graph.proofs.Bools.{never, eqb-self, eqb-no}
-use Rattle.graph.proofs.Sums.{sum-ext, sum-change, sum-change-four}
-use Rattle.graph.proofs.Stars.{differ-same, Runs, forward, backward, Star, split-reserved, split-z, split-x, split-y, split-low, split-high, cost-x, cost-y, cost-other}
+use Rattle.base.proofs.Bools.{never, eqb-self, eqb-no}
+use Rattle.base.proofs.Sums.{sum-ext, sum-change, sum-change-four}
+use Rattle.graph.proofs.Stars.{differ-same, Runs, forward, backward, Star, split-reserved, split-z, split-x}
+use Rattle.graph.proofs.Stars.{split-y, split-low, split-high, cost-x, cost-y, cost-other}
 use Rattle.graph.proofs.Partners.{runs-here}
 
 -- splitting with a partner whose others are known
-pub split-with : (g : Network) (v x : ℕ) {y z : ℕ} → without x (partners g v) ≡ y ∷ z ∷ [] → splitWith g v x ≡ split g v x y z
+pub split-with : (g : Network) (v x : ℕ) {y z : ℕ} → without x (partners g v) ≡ y ∷ z ∷ []
+    → splitWith g v x ≡ split g v x y z
 unfolding splitWith
 split-with g v x e = rw e
 
@@ -48,7 +51,8 @@ module _ {g : Network} (f : Formed g) (v x y z : ℕ) (v-here : here g v ≡ tru
         f .counted,
         ap bit v-here,
         ap bit (getD-set-same (g .present) v false false v-in),
-        sum-change (g .vertices) v p q (f .here-below v v-here) (λ w l ne. ap bit (getD-set-other (g .present) v w false false ne)),
+        sum-change (g .vertices) v p q (f .here-below v v-here)
+            (λ w l ne. ap bit (getD-set-other (g .present) v w false false ne)),
       )
 
 pub still-here : (g : Network) (v x y z w : ℕ) → here g w ≡ true → w ≢ v → here (split g v x y z) w ≡ true
@@ -56,7 +60,8 @@ unfolding split
 still-here g v x y z w h ne = rw (getD-set-other (g .present) v w false false ne) h
 
 -- ── ends and degrees ──
-runs-below : {g : Network} → Formed g → {e v f : ℕ} → e < g .edges → Runs g e v f → (v < g .vertices) × (f < g .vertices)
+runs-below : {g : Network} → Formed g → {e v f : ℕ} → e < g .edges → Runs g e v f
+    → (v < g .vertices) × (f < g .vertices)
 runs-below f {e} l (forward a b) = (rw (← a) (f .low-below e l), rw (← b) (f .high-below e l))
 runs-below f {e} l (backward a b) = (rw (← b) (f .high-below e l), rw (← a) (f .low-below e l))
 
@@ -108,7 +113,8 @@ place g x y z e =
     ]
 
 module _ {g : Network} (f : Formed g) {v x y z u a b c : ℕ} (s : Star g v x y z u a b c) where
-  after-below : (e : ℕ) → e < g .edges → (lowEnd (split g v x y z) e < g .vertices) × (highEnd (split g v x y z) e < g .vertices)
+  after-below : (e : ℕ) → e < g .edges
+      → (lowEnd (split g v x y z) e < g .vertices) × (highEnd (split g v x y z) e < g .vertices)
   after-below e l = go (place g x y z e)
     where
       reaches : {e f : ℕ} → e < g .edges → Runs g e v f → f < g .vertices
@@ -118,11 +124,13 @@ module _ {g : Network} (f : Formed g) {v x y z u a b c : ℕ} (s : Star g v x y 
       v< = runs-below f (s .four .r<) (s .to-u) .0
 
       go : Place g x y z e → (lowEnd (split g v x y z) e < g .vertices) × (highEnd (split g v x y z) e < g .vertices)
-      go (at-reserved q) = rw q (ends-below (split-reserved f s) (reaches (s .four .r<) (s .to-u)) (reaches (s .four .x<) (s .to-a)))
+      go (at-reserved q) =
+          rw q (ends-below (split-reserved f s) (reaches (s .four .r<) (s .to-u)) (reaches (s .four .x<) (s .to-a)))
       go (at-x q) = rw q (ends-below (split-x f s) v< v<)
       go (at-y q) = rw q (ends-below (split-y f s) v< v<)
       go (at-z q) = rw q (ends-below (split-z f s) (reaches (s .four .y<) (s .to-b)) (reaches (s .four .z<) (s .to-c)))
-      go (beside nr nx ny nz) = rw (split-low f s e nr nx ny nz, split-high f s e nr nx ny nz) (f .low-below e l, f .high-below e l)
+      go (beside nr nx ny nz) =
+          rw (split-low f s e nr nx ny nz, split-high f s e nr nx ny nz) (f .low-below e l, f .high-below e l)
 
   pub formed-after : here g v ≡ true → Formed (split g v x y z)
   formed-after h = record {
@@ -137,7 +145,7 @@ module _ {g : Network} (f : Formed g) {v x y z u a b c : ℕ} (s : Star g v x y 
     reserved-below = unfold split in f .reserved-below;
   }
 
-  -- degrees of the others stay
+  -- degrees of the others stay: off v, the four edges have the ends u, a, b, c before and after
   pub degrees-after : (w : ℕ) → w ≢ v → degree (split g v x y z) w ≡ degree g w
   unfolding degree split
   degrees-after w ne =
@@ -158,82 +166,101 @@ module _ {g : Network} (f : Formed g) {v x y z u a b c : ℕ} (s : Star g v x y 
       same : (e : ℕ) → e ≢ g .reserved → e ≢ x → e ≢ y → e ≢ z → endsAt (split g v x y z) w e ≡ endsAt g w e
       same e nr nx ny nz = unfold endsAt in rw (split-low f s e nr nx ny nz, split-high f s e nr nx ny nz)
 
-module _ {g : Network} (sound : Sound g) {v x y z u a b c : ℕ} (s : Star g v x y z u a b c) (v-here : here g v ≡ true) where
-  -- the far end of an edge at v is present, before and after
-  pub far-here : {e f : ℕ} → e < g .edges → Runs g e v f → here g f ≡ true
-  far-here l t = runs-here sound l t v-here
+module _ {g : Network} (sound : Sound g) {v x y z u a b c : ℕ} (s : Star g v x y z u a b c) (v-here : here g v ≡ true)
+  where
+    -- the far end of an edge at v is present, before and after
+    pub far-here : {e f : ℕ} → e < g .edges → Runs g e v f → here g f ≡ true
+    far-here l t = runs-here sound l t v-here
 
-  pub far-stays : {e f : ℕ} → e < g .edges → Runs g e v f → f ≢ v → here (split g v x y z) f ≡ true
-  far-stays {f = f} l t ne = still-here g v x y z f (far-here l t) ne
+    pub far-stays : {e f : ℕ} → e < g .edges → Runs g e v f → f ≢ v → here (split g v x y z) f ≡ true
+    far-stays {f = f} l t ne = still-here g v x y z f (far-here l t) ne
 
-  pub joins-after : (e : ℕ) → e < g .edges → Joins (split g v x y z) e
-  joins-after e l = go (place g x y z e)
-    where
-      form : Formed g
-      form = sound .formed
+    pub joins-after : (e : ℕ) → e < g .edges → Joins (split g v x y z) e
+    joins-after e l = go (place g x y z e)
+      where
+        form : Formed g
+        form = sound .formed
 
-      go : Place g x y z e → Joins (split g v x y z) e
-      go (at-reserved q) = rw q (runs-joins (split-reserved form s) (far-stays (s .four .r<) (s .to-u) (s .u≢)) (far-stays (s .four .x<) (s .to-a) (s .a≢)))
-      go (at-x q) = rw q (loop-joins (split-x form s))
-      go (at-y q) = rw q (loop-joins (split-y form s))
-      go (at-z q) = rw q (runs-joins (split-z form s) (far-stays (s .four .y<) (s .to-b) (s .b≢)) (far-stays (s .four .z<) (s .to-c) (s .c≢)))
-      go (beside nr nx ny nz) =
-          let lo = split-low form s e nr nx ny nz in
-          let hi = split-high form s e nr nx ny nz in
-          let w = elsewhere g v e (s .rest e l nr nx ny nz) in
-          ⊎-elim
-          (λ j. inl (rw lo (still-here g v x y z _ (j .0) (w .0)), rw hi (still-here g v x y z _ (j .1) (w .1))))
-          (λ q. inr (lo ∙ q ∙ sym hi))
-          (sound .joins e l)
+        go : Place g x y z e → Joins (split g v x y z) e
+        go (at-reserved q) =
+            rw q (runs-joins (split-reserved form s) (far-stays (s .four .r<) (s .to-u) (s .u≢))
+            (far-stays (s .four .x<) (s .to-a) (s .a≢)))
+        go (at-x q) = rw q (loop-joins (split-x form s))
+        go (at-y q) = rw q (loop-joins (split-y form s))
+        go (at-z q) = rw q (runs-joins (split-z form s) (far-stays (s .four .y<) (s .to-b) (s .b≢))
+            (far-stays (s .four .z<) (s .to-c) (s .c≢)))
+        go (beside nr nx ny nz) =
+            let lo = split-low form s e nr nx ny nz in
+            let hi = split-high form s e nr nx ny nz in
+            let w = elsewhere g v e (s .rest e l nr nx ny nz) in
+            ⊎-elim
+            (λ j. inl (rw lo (still-here g v x y z _ (j .0) (w .0)), rw hi (still-here g v x y z _ (j .1) (w .1))))
+            (λ q. inr (lo ∙ q ∙ sym hi))
+            (sound .joins e l)
 
-  low-held : here (split g v x y z) (lowEnd (split g v x y z) (g .reserved)) ≡ true
-  low-held = go (split-reserved (sound .formed) s)
-    where
-      go : Runs (split g v x y z) (g .reserved) u a → here (split g v x y z) (lowEnd (split g v x y z) (g .reserved)) ≡ true
-      go (forward p q) = rw p (far-stays (s .four .r<) (s .to-u) (s .u≢))
-      go (backward p q) = rw p (far-stays (s .four .x<) (s .to-a) (s .a≢))
+    low-held : here (split g v x y z) (lowEnd (split g v x y z) (g .reserved)) ≡ true
+    low-held = go (split-reserved (sound .formed) s)
+      where
+        go : Runs (split g v x y z) (g .reserved) u a
+            → here (split g v x y z) (lowEnd (split g v x y z) (g .reserved)) ≡ true
+        go (forward p q) = rw p (far-stays (s .four .r<) (s .to-u) (s .u≢))
+        go (backward p q) = rw p (far-stays (s .four .x<) (s .to-a) (s .a≢))
 
-  -- retired edges cost nothing
-  free-after : (e : ℕ) → e < g .edges → here (split g v x y z) (lowEnd (split g v x y z) e) ≡ false → costOf (split g v x y z) e ≡ pos 0
-  free-after e l h = go (place g x y z e)
-    where
-      form : Formed g
-      form = sound .formed
+    -- retired edges cost nothing
+    free-after : (e : ℕ) → e < g .edges → here (split g v x y z) (lowEnd (split g v x y z) e) ≡ false
+        → costOf (split g v x y z) e ≡ pos 0
+    free-after e l h = go (place g x y z e)
+      where
+        form : Formed g
+        form = sound .formed
 
-      left : {e p q : ℕ} → Runs (split g v x y z) e p q → here (split g v x y z) p ≡ true → here (split g v x y z) q ≡ true → here (split g v x y z) (lowEnd (split g v x y z) e) ≡ true
-      left (forward i j) hp hq = rw i hp
-      left (backward i j) hp hq = rw i hq
+        left : {e p q : ℕ} → Runs (split g v x y z) e p q → here (split g v x y z) p ≡ true
+            → here (split g v x y z) q ≡ true → here (split g v x y z) (lowEnd (split g v x y z) e) ≡ true
+        left (forward i j) hp hq = rw i hp
+        left (backward i j) hp hq = rw i hq
 
-      go : Place g x y z e → costOf (split g v x y z) e ≡ pos 0
-      go (at-reserved q) = never (sym h ∙ (rw q (left (split-reserved form s) (far-stays (s .four .r<) (s .to-u) (s .u≢)) (far-stays (s .four .x<) (s .to-a) (s .a≢)))))
-      go (at-x q) = rw q (cost-x form s)
-      go (at-y q) = rw q (cost-y form s)
-      go (at-z q) = never (sym h ∙ (rw q (left (split-z form s) (far-stays (s .four .y<) (s .to-b) (s .b≢)) (far-stays (s .four .z<) (s .to-c) (s .c≢)))))
-      go (beside nr nx ny nz) =
-          let lo = split-low form s e nr nx ny nz in
-          let w = elsewhere g v e (s .rest e l nr nx ny nz) in
-          cost-other form s e nx ny nz ∙ sound .free e l (sym (getD-set-other (g .present) v (lowEnd g e) false false (w .0)) ∙ away (rw lo at h))
-        where
-          away : here (split g v x y z) (lowEnd g e) ≡ false → getD (set (g .present) v false) (lowEnd g e) false ≡ false
-          away k = unfold split in k
+        go : Place g x y z e → costOf (split g v x y z) e ≡ pos 0
+        go (at-reserved q) =
+            never (sym h ∙ (rw q
+            (left (split-reserved form s) (far-stays (s .four .r<) (s .to-u) (s .u≢))
+            (far-stays (s .four .x<) (s .to-a) (s .a≢)))))
+        go (at-x q) = rw q (cost-x form s)
+        go (at-y q) = rw q (cost-y form s)
+        go (at-z q) = never (sym h
+            ∙ (rw q (left (split-z form s) (far-stays (s .four .y<) (s .to-b) (s .b≢))
+            (far-stays (s .four .z<) (s .to-c) (s .c≢)))))
+        go (beside nr nx ny nz) =
+            let lo = split-low form s e nr nx ny nz in
+            let w = elsewhere g v e (s .rest e l nr nx ny nz) in
+            cost-other form s e nx ny nz
+            ∙ sound .free e l (sym (getD-set-other (g .present) v (lowEnd g e) false false (w .0))
+            ∙ away (rw lo at h))
+          where
+            away : here (split g v x y z) (lowEnd g e) ≡ false
+                → getD (set (g .present) v false) (lowEnd g e) false ≡ false
+            away k = unfold split in k
 
-  -- soundness is kept by an admissible split
-  pub sound-after : EveryCut 4 (split g v x y z) → Sound (split g v x y z)
-  sound-after h = record {
-    formed = formed-after (sound .formed) s v-here;
-    joins = unfold split in joins-after;
-    degrees = λ w k. let e = split-here (sound .formed) v x y z v-here w k in degrees-after (sound .formed) s w (e .1) ∙ sound .degrees w (e .0);
-    cuts = h;
-    held = unfold split in low-held;
-    free = unfold split in free-after;
-  }
+    -- soundness is kept by an admissible split: degrees stay, the reserved edge and z join present vertices,
+    -- x and y are loops at no cost, and the cuts are what admissible says
+    pub sound-after : EveryCut 4 (split g v x y z) → Sound (split g v x y z)
+    sound-after h = record {
+      formed = formed-after (sound .formed) s v-here;
+      joins = unfold split in joins-after;
+      degrees = λ w k. let e =
+          split-here (sound .formed) v x y z v-here w k in degrees-after (sound .formed) s w (e .1)
+          ∙ sound .degrees w (e .0);
+      cuts = h;
+      held = unfold split in low-held;
+      free = unfold split in free-after;
+    }
 
 -- sides that agree on the present vertices are crossed alike
 pub crossings-here : (g : Network) → ((e : ℕ) → e < g .edges → Joins g e) → (K : ℕ → Bool) (S U : Side)
     → ((w : ℕ) → here g w ≡ true → S w ≡ U w) → crossingsOf g K S ≡ crossingsOf g K U
 unfolding crossingsOf
 crossings-here g joins K S U h =
-    sum-ext (g .edges) (λ e. cond (K e) (crosses g S e) 0) (λ e. cond (K e) (crosses g U e) 0) (λ e l. ap (λ n. cond (K e) n 0) (same e (joins e l)))
+    sum-ext (g .edges) (λ e. cond (K e) (crosses g S e) 0) (λ e. cond (K e) (crosses g U e) 0)
+    (λ e l. ap (λ n. cond (K e) n 0) (same e (joins e l)))
   where
     same : (e : ℕ) → Joins g e → crosses g S e ≡ crosses g U e
     same e j = unfold crosses in ⊎-elim

@@ -14,8 +14,8 @@ use Rattle.graph.specs.Cut.{Side, differ, crosses, crossingsOf, crossing
 use Rattle.graph.specs.Split.{splitEnds, costAfter, split}
 use Rattle.graph.specs.Sound.{Formed}
 use Rattle.graph.specs.declared.Network.{Network}
-use Rattle.graph.proofs.Bools.{eqb-self, eqb-no}
-use Rattle.graph.proofs.Sums.{sum-change-four, Four}
+use Rattle.base.proofs.Bools.{eqb-self, eqb-no}
+use Rattle.base.proofs.Sums.{sum-change-four, Four}
 
 -- an edge other than the reserved one counts among all but it
 pub counted : (g : Network) (e : ℕ) → g .reserved ≢ e → unreserved g e ≡ true
@@ -59,7 +59,8 @@ runs-far (forward a b) h = rw (a, b, eqb-self)
 runs-far (backward a b) h = rw (a, b, eqb-no h)
 
 -- an edge that does not end at v crosses alike wherever v lies
-crosses-put : (g : Network) (e : ℕ) (S : Side) (v : ℕ) (t : Bool) → endsAt g v e ≡ 0 → crosses g (put v t S) e ≡ crosses g S e
+crosses-put : (g : Network) (e : ℕ) (S : Side) (v : ℕ) (t : Bool) → endsAt g v e ≡ 0
+    → crosses g (put v t S) e ≡ crosses g S e
 unfolding crosses endsAt
 crosses-put g e S v t h = go (eqb (lowEnd g e) v) (eqb (highEnd g e) v) refl refl
   where
@@ -85,7 +86,19 @@ pub record Star (g : Network) (v x y z u a b c : ℕ) : Type 0 where
 module _ {g : Network} {v x y z u a b c : ℕ} where
   pub swap-others : Star g v x y z u a b c → Star g v x z y u a c b
   swap-others s = let f = s .four in record {
-    four = record { r< = f .r<; x< = f .x<; y< = f .z<; z< = f .y<; rx = f .rx; ry = f .rz; rz = f .ry; xy = f .xz; xz = f .xy; yz = λ e. f .yz (sym e) };
+    four = record {
+      r< = f .r<;
+      x< = f .x<;
+      y< = f .z<;
+      z< = f .y<;
+      rx = f .rx;
+      ry = f .rz;
+      rz = f .ry;
+      xy = f .xz;
+      xz =
+          f .xy;
+      yz = λ e. f .yz (sym e);
+    };
     to-u = s .to-u;
     to-a = s .to-a;
     to-b = s .to-c;
@@ -99,7 +112,19 @@ module _ {g : Network} {v x y z u a b c : ℕ} where
 
   pub swap-first : Star g v x y z u a b c → Star g v y x z u b a c
   swap-first s = let f = s .four in record {
-    four = record { r< = f .r<; x< = f .y<; y< = f .x<; z< = f .z<; rx = f .ry; ry = f .rx; rz = f .rz; xy = λ e. f .xy (sym e); xz = f .yz; yz = f .xz };
+    four = record {
+      r< = f .r<;
+      x< = f .y<;
+      y< = f .x<;
+      z< = f .z<;
+      rx = f .ry;
+      ry = f .rx;
+      rz = f .rz;
+      xy =
+          λ e. f .xy (sym e);
+      xz = f .yz;
+      yz = f .xz;
+    };
     to-u = s .to-u;
     to-a = s .to-b;
     to-b = s .to-a;
@@ -111,7 +136,7 @@ module _ {g : Network} {v x y z u a b c : ℕ} where
     rest = λ i l p q w e. s .rest i l p w q e;
   }
 
--- the crossing count of S with v put into part t
+-- the crossing count of S with v put into part t: of all edges only the four at v may cross otherwise than before
 pub crossings-put : {g : Network} {v x y z u a b c : ℕ} → Star g v x y z u a b c → (S : Side) (t : Bool)
     → crossings g (put v t S) + (differ (S v) (S u) + differ (S v) (S a) + differ (S v) (S b) + differ (S v) (S c))
     ≡ crossings g S + (differ t (S u) + differ t (S a) + differ t (S b) + differ t (S c))
@@ -119,7 +144,8 @@ unfolding crossingsOf
 crossings-put {g} {v} s S t =
     omega (
       arith,
-      sum-change-four (s .four) (crosses g (put v t S)) (crosses g S) (λ e l nr nx ny nz. crosses-put g e S v t (s .rest e l nr nx ny nz)),
+      sum-change-four (s .four) (crosses g (put v t S)) (crosses g S)
+          (λ e l nr nx ny nz. crosses-put g e S v t (s .rest e l nr nx ny nz)),
       runs-crosses S (s .to-u),
       runs-crosses S (s .to-a),
       runs-crosses S (s .to-b),
@@ -146,12 +172,14 @@ module _ {n r x y z : ℕ} (q : Four n r x y z) (column : List ℕ) (room : n �
       simp (getD-set-other, getD-set-same, lt-length-set)
 
   ends-x : getD (splitEnds column r newR z newZ x y v) x 0 ≡ v
-  ends-x = let l : x < length column = omega (arith, q .x<) in simp (getD-set-other, getD-set-same, lt-length-set, q .xy)
+  ends-x = let l : x < length column =
+      omega (arith, q .x<) in simp (getD-set-other, getD-set-same, lt-length-set, q .xy)
 
   ends-y : getD (splitEnds column r newR z newZ x y v) y 0 ≡ v
   ends-y = let l : y < length column = omega (arith, q .y<) in simp (getD-set-same, lt-length-set)
 
-  ends-other : (e : ℕ) → e ≢ r → e ≢ x → e ≢ y → e ≢ z → getD (splitEnds column r newR z newZ x y v) e 0 ≡ getD column e 0
+  ends-other : (e : ℕ) → e ≢ r → e ≢ x → e ≢ y → e ≢ z
+      → getD (splitEnds column r newR z newZ x y v) e 0 ≡ getD column e 0
   ends-other e nr nx ny nz = simp getD-set-other
 
 -- ── the edges after a split ──
@@ -194,11 +222,13 @@ module _ {g : Network} (f : Formed g) {v x y z u a b c : ℕ} (s : Star g v x y 
 
   pub cost-x : costOf (split g v x y z) x ≡ pos 0
   unfolding split
-  cost-x = let l : x < length (g .cost) = omega (arith, s .four .x<, f .cost-room) in simp (getD-set-other, getD-set-same, lt-length-set, s .four .xy)
+  cost-x = let l : x < length (g .cost) =
+      omega (arith, s .four .x<, f .cost-room) in simp (getD-set-other, getD-set-same, lt-length-set, s .four .xy)
 
   pub cost-y : costOf (split g v x y z) y ≡ pos 0
   unfolding split
-  cost-y = let l : y < length (g .cost) = omega (arith, s .four .y<, f .cost-room) in simp (getD-set-same, lt-length-set)
+  cost-y = let l : y < length (g .cost) =
+      omega (arith, s .four .y<, f .cost-room) in simp (getD-set-same, lt-length-set)
 
   pub cost-other : (e : ℕ) → e ≢ x → e ≢ y → e ≢ z → costOf (split g v x y z) e ≡ costOf g e
   unfolding split
@@ -207,19 +237,23 @@ module _ {g : Network} (f : Formed g) {v x y z u a b c : ℕ} (s : Star g v x y 
   pub cost-reserved : costOf (split g v x y z) (g .reserved) ≡ costOf g (g .reserved)
   cost-reserved = cost-other (g .reserved) (s .four .rx) (s .four .ry) (s .four .rz)
 
-  pub split-crosses : (S : Side) (e : ℕ) → e ≢ g .reserved → e ≢ x → e ≢ y → e ≢ z → crosses (split g v x y z) S e ≡ crosses g S e
+  pub split-crosses : (S : Side) (e : ℕ) → e ≢ g .reserved → e ≢ x → e ≢ y → e ≢ z
+      → crosses (split g v x y z) S e ≡ crosses g S e
   unfolding crosses
   split-crosses S e nr nx ny nz = ap₂ (λ i j. differ (S i) (S j)) (split-low e nr nx ny nz) (split-high e nr nx ny nz)
 
-  -- the effect of a split on a crossing count
+  -- the effect of a split on a crossing count: of four edges from v there remain u to a and b to c. With v outside S
+  -- and k of the four far ends inside, d'(S) = d(S) - k + [u, a parted] + [b, c parted]
   pub crossings-split : (S : Side)
-      → crossings (split g v x y z) S + (differ (S v) (S u) + differ (S v) (S a) + differ (S v) (S b) + differ (S v) (S c))
+      → crossings (split g v x y z) S +
+      (differ (S v) (S u) + differ (S v) (S a) + differ (S v) (S b) + differ (S v) (S c))
       ≡ crossings g S + (differ (S u) (S a) + differ (S b) (S c))
   unfolding crossingsOf split
   crossings-split S =
       omega (
         arith,
-        sum-change-four (s .four) (crosses (split g v x y z) S) (crosses g S) (λ e l nr nx ny nz. split-crosses S e nr nx ny nz),
+        sum-change-four (s .four) (crosses (split g v x y z) S) (crosses g S)
+            (λ e l nr nx ny nz. split-crosses S e nr nx ny nz),
         runs-crosses S (s .to-u),
         runs-crosses S (s .to-a),
         runs-crosses S (s .to-b),

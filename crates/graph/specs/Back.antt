@@ -24,7 +24,8 @@ pub record Third (g : Network) (t : Step) (z : ℕ) : Type 0 where
   pub not-x : z ≢ t .x
   pub not-y : z ≢ t .y
 
--- going back through a step, from the marks after it to those before it: y is kept, x exactly if z is not, everything else as it was
+-- going back through a step, from the marks after it to those before it:
+-- y is kept, x exactly if z is not, everything else as it was
 pub record StepKeeps (x y z : ℕ) (later K : List Bool) : Type 0 where
   pub sized : length K ≡ length later
   pub y-kept : kept K y ≡ true

@@ -3,11 +3,14 @@ use mathlib.Core.Bool.{Bool, true, false, not, cond, _&&_}
 use mathlib.Core.List.{List, [], _∷_}
 use mathlib.Core.Logic.{_⊎_, _≢_}
 use mathlib.Core.Path.{_≡_}
-use Prim.Native.Nat.{ℕ, zero, suc, _<_}
+use Prim.Native.Nat.{ℕ, _<_}
 use lib.Dec.{eqb, ltb}
 use lib.ListN.{length, getD, set}
 use lib.Signed.{leZ, ltZ, _≤ℤ_}
-use Rattle.graph.specs.Fold.{pick, among, tabulate}
+use Rattle.base.specs.Answer.{Answer, refused, answer, unless}
+use Rattle.base.specs.Refusals.{FORM, NO-END, NO-PARTNER, NOT-ADMISSIBLE, CHEAPER, NOT-DEAREST}
+use Rattle.base.specs.Limits.{fewestVertices}
+use Rattle.base.specs.Fold.{pick, among, tabulate}
 use Rattle.graph.specs.Network.{lowEnd, highEnd, costOf, here, touches}
 use Rattle.graph.specs.Split.{partners, Admissible, admissible, third, after}
 use Rattle.graph.specs.declared.Network.{Network}
@@ -15,15 +18,15 @@ use Rattle.graph.specs.declared.Step.{Step}
 
 -- ── the check, which computes ──
 
--- the refusal of a step, 0 for none: 8 where v is no end of the reserved edge, 9 where x or y is no partner or they are one,
--- 10 where one of them is not admissible, 11 where x costs less than y
+-- the refusal of a step, 0 for none: 8 where v is no end of the reserved edge, 9 where x or y is no
+-- partner or they are one, 10 where one of them is not admissible, 11 where x costs less than y
 unfoldable pub stepRefusal : Network → Step → ℕ
 stepRefusal g t =
     let ps = partners g (t .v) in
-    let eleven : ℕ = cond (ltZ (costOf g (t .x)) (costOf g (t .y))) 11 0 in
-    let ten : ℕ = cond (admissible g (t .v) (t .x) && admissible g (t .v) (t .y)) eleven 10 in
-    let nine : ℕ = cond (among (t .x) ps && among (t .y) ps && not (eqb (t .x) (t .y))) ten 9 in
-    cond (touches g (t .v) (g .reserved)) nine 8
+    let eleven : ℕ = cond (ltZ (costOf g (t .x)) (costOf g (t .y))) CHEAPER 0 in
+    let ten : ℕ = cond (admissible g (t .v) (t .x) && admissible g (t .v) (t .y)) eleven NOT-ADMISSIBLE in
+    let nine : ℕ = cond (among (t .x) ps && among (t .y) ps && not (eqb (t .x) (t .y))) ten NO-PARTNER in
+    cond (touches g (t .v) (g .reserved)) nine NO-END
 
 -- the edges that are neither retired nor reserved; with two vertices left, the last three
 unfoldable pub lastEdges : Network → List ℕ
@@ -36,7 +39,7 @@ dearest g e (i ∷ is) = leZ (costOf g i) (costOf g e) && dearest g e is
 
 -- the refusal of the ending, 0 for none: 12 where the dropped edge is none of the last three, or cheaper than another
 unfoldable pub endRefusal : Network → ℕ → ℕ
-endRefusal g d = cond (among d (lastEdges g) && dearest g d (lastEdges g)) 0 12
+endRefusal g d = cond (among d (lastEdges g) && dearest g d (lastEdges g)) 0 NOT-DEAREST
 
 -- a mark for each place of the network's columns: whether that edge stands in a list
 unfoldable pub marks : Network → List ℕ → List Bool
@@ -50,26 +53,19 @@ endKept g d = set (marks g (lastEdges g)) d false
 unfoldable pub lift : ℕ → ℕ → ℕ → List Bool → List Bool
 lift x y z K = set (set K y true) x (not (getD K z false))
 
--- what the check of a chain finds
-pub data Verdict : Type 0 where
-  refused : ℕ → Verdict
-  keeps : List Bool → Verdict
-
-unfoldable pub liftVerdict : Network → Step → Verdict → Verdict
-liftVerdict g t (refused k) = refused k
-liftVerdict g t (keeps K) = keeps (lift (t .x) (t .y) (third g t) K)
-
--- a refusal, or what follows where there is none
-unfoldable pub unless : ℕ → Verdict → Verdict
-unless zero next = next
-unless (suc k) next = refused (suc k)
+-- the same of what the check of a chain finds: a refusal, or the kept set
+unfoldable pub lifted : ℕ → ℕ → ℕ → Answer (List Bool) → Answer (List Bool)
+lifted x y z (refused k) = refused k
+lifted x y z (answer K) = answer (lift x y z K)
 
 -- the check of a chain: its steps, and the edge that the ending drops. A step too many or too few is 1 at its place
-unfoldable pub check : Network → List Step → ℕ → Verdict
-check g [] d = let ending = unless (endRefusal g d) (keeps (endKept g d)) in cond (eqb (g .remaining) 2) ending (refused 1)
+unfoldable pub check : Network → List Step → ℕ → Answer (List Bool)
+check g [] d =
+    let ending = unless (endRefusal g d) (answer (endKept g d)) in
+    cond (eqb (g .remaining) fewestVertices) ending (refused FORM)
 check g (t ∷ ts) d =
-    let later = liftVerdict g t (check (after g t) ts d) in
-    cond (ltb 2 (g .remaining)) (unless (stepRefusal g t) later) (refused 1)
+    let later = lifted (t .x) (t .y) (third g t) (check (after g t) ts d) in
+    cond (ltb fewestVertices (g .remaining)) (unless (stepRefusal g t) later) (refused FORM)
 
 -- ── the rules, as a relation ──
 
@@ -79,7 +75,8 @@ pub record Partner (g : Network) (v p : ℕ) : Type 0 where
   pub at-v : (lowEnd g p ≡ v) ⊎ (highEnd g p ≡ v)
   pub not-reserved : p ≢ g .reserved
 
--- a step by rule: two different admissible partners at an end of the reserved edge, the first no cheaper than the second
+-- a step by rule: two different admissible partners at an end of
+-- the reserved edge, the first no cheaper than the second
 pub record StepByRule (g : Network) (t : Step) : Type 0 where
   pub at-end : (lowEnd g (g .reserved) ≡ t .v) ⊎ (highEnd g (g .reserved) ≡ t .v)
   pub x-partner : Partner g (t .v) (t .x)
@@ -109,4 +106,5 @@ pub data ByRules : Network → List Step → ℕ → Type 0 where
 -- a run of steps by rule leads from one network to another
 pub data Leads : Network → List Step → Network → Type 0 where
   stays : {g : Network} → Leads g [] g
-  goes : {g h : Network} {t : Step} {ts : List Step} → 2 < g .remaining → StepByRule g t → Leads (after g t) ts h → Leads g (t ∷ ts) h
+  goes : {g h : Network} {t : Step} {ts : List Step} → 2 < g .remaining → StepByRule g t → Leads (after g t) ts h
+      → Leads g (t ∷ ts) h

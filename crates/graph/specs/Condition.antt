@@ -7,17 +7,18 @@ use Prim.Native.Nat.{ℕ, _<_}
 use lib.ListN.{length}
 use lib.IntN.{pos, _*ℤ_}
 use lib.Signed.{_≤ℤ_}
+use Rattle.base.specs.Answer.{answer}
 use Rattle.graph.specs.Network.{kept, keptCost, allButReserved}
 use Rattle.graph.specs.Cut.{EveryCutOf}
 use Rattle.graph.specs.Split.{after, swapped}
-use Rattle.graph.specs.Chain.{keeps, check, StepByRule, ByRules, Leads}
+use Rattle.graph.specs.Chain.{check, StepByRule, ByRules, Leads}
 use Rattle.graph.specs.Back.{Back}
 use Rattle.graph.specs.Sound.{Sound}
 use Rattle.graph.specs.declared.Network.{Network}
 use Rattle.graph.specs.declared.Step.{Step}
 
--- a kept set as it is owed: a mark for each edge, so none twice; the reserved edge left out; every cut crossed at least twice;
--- and three times its cost at most twice the cost of all edges but the reserved one
+-- a kept set as it is owed: a mark for each edge, so none twice; the reserved edge left out; every cut crossed
+-- at least twice; and three times its cost at most twice the cost of all edges but the reserved one
 pub record Good (g : Network) (K : List Bool) : Type 0 where
   pub sized : length K ≡ length (g .low)
   pub leaves-out : kept K (g .reserved) ≡ false
@@ -26,17 +27,19 @@ pub record Good (g : Network) (K : List Bool) : Type 0 where
 
 -- a chain passes: its check keeps a set
 abbrev pub Passes : Network → List Step → ℕ → Type 0
-Passes g ts d = (K : List Bool) × (check g ts d ≡ keeps K)
+Passes g ts d = (K : List Bool) × (check g ts d ≡ answer K)
 
 pub record Condition (g : Network) : Type 0 where
   -- the check of a chain keeps a set exactly when the chain keeps the rules and going back gives this set
-  pub rules : (ts : List Step) (d : ℕ) (K : List Bool) → (check g ts d ≡ keeps K) ↔ (ByRules g ts d × Back g ts d K)
+  pub rules : (ts : List Step) (d : ℕ) (K : List Bool) → (check g ts d ≡ answer K) ↔ (ByRules g ts d × Back g ts d K)
   -- going back gives exactly one set
-  pub one : (ts : List Step) (d : ℕ) → ByRules g ts d → (K : List Bool) × Back g ts d K × ((L : List Bool) → Back g ts d L → L ≡ K)
+  pub one : (ts : List Step) (d : ℕ) → ByRules g ts d
+      → (K : List Bool) × Back g ts d K × ((L : List Bool) → Back g ts d L → L ≡ K)
   -- the edges that a chain by the rules keeps are as owed
   pub good : (ts : List Step) (d : ℕ) (K : List Bool) → ByRules g ts d → Back g ts d K → Good g K
   -- some chain keeps the rules
   pub exists : (ts : List Step) × (d : ℕ) × ByRules g ts d
-  -- wherever steps by rule lead, either partner that a step names may be split with, so that both must be tested: a sound network is left
+  -- wherever steps by rule lead, either partner that a step names may be
+  -- split with, so that both must be tested: a sound network is left
   pub either : (ts : List Step) (h : Network) → Leads g ts h → 2 < h .remaining → (t : Step) → StepByRule h t
       → Sound (after h t) × Sound (after h (swapped t))

@@ -5,7 +5,8 @@ use mathlib.Core.Path.{_≡_}
 use Prim.Native.Nat.{ℕ, zero, suc, _≤_}
 use lib.Dec.{eqb, leb}
 use lib.ListN.{getD}
-use Rattle.graph.specs.Fold.{sum, each}
+use Rattle.base.specs.Refusals.{DEGREE, CUT}
+use Rattle.base.specs.Fold.{sum, each}
 use Rattle.graph.specs.Network.{lowEnd, highEnd, here, degree, kept}
 use Rattle.graph.specs.declared.Network.{Network}
 
@@ -66,7 +67,8 @@ abbrev pub sideOf : List Bool → Side
 sideOf d v = getD d v false
 
 unfoldable pub crossedBy : ℕ → Network → (ℕ → Bool) → List Bool → Bool
-crossedBy k g K d = not (somewhere true (g .present) d && somewhere false (g .present) d) || leb k (crossingsOf g K (sideOf d))
+crossedBy k g K d = not (somewhere true (g .present) d && somewhere false (g .present) d) || leb k
+    (crossingsOf g K (sideOf d))
 
 unfoldable pub everyCutOf : ℕ → Network → (ℕ → Bool) → Bool
 everyCutOf k g K = everySide (g .vertices) (crossedBy k g K)
@@ -80,4 +82,4 @@ fourEach g = each (g .vertices) (λ v. eqb (degree g v) 4)
 
 -- the refusal of a network that reads, 0 where it is accepted: 6 for a degree, 7 for a cut
 unfoldable pub networkRefusal : Network → ℕ
-networkRefusal g = let seven : ℕ = cond (everyCut 4 g) 0 7 in cond (fourEach g) seven 6
+networkRefusal g = let seven : ℕ = cond (everyCut 4 g) 0 CUT in cond (fourEach g) seven DEGREE

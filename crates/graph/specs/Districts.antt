@@ -1,5 +1,5 @@
--- Document 01's district examples: the table of those that it marks, and its audits of T.
-use mathlib.Core.Bool.{Bool, true, false, _&&_}
+-- Document 01's district examples: the table of those that it marks.
+use mathlib.Core.Bool.{Bool, true, _&&_}
 use mathlib.Core.List.{List, [], _∷_}
 use Prim.Native.Nat.{ℕ, zero, suc}
 use lib.IntN.{ℤ, pos, negsuc}
@@ -22,7 +22,8 @@ two costs = record { vertices = 2; reserved = 0; ends = replicate 4 (0, 1); cost
 
 -- the network T that document 01 prints, at given costs
 abbrev triangle : List ℤ → District
-triangle costs = record { vertices = 3; reserved = 0; ends = (0, 1) ∷ (0, 1) ∷ (0, 2) ∷ (0, 2) ∷ (1, 2) ∷ (1, 2) ∷ []; costs = costs }
+triangle costs = record
+    { vertices = 3; reserved = 0; ends = (0, 1) ∷ (0, 1) ∷ (0, 2) ∷ (0, 2) ∷ (1, 2) ∷ (1, 2) ∷ []; costs = costs }
 
 abbrev pub T : District
 T = triangle (pos 7 ∷ pos 4 ∷ pos 1 ∷ pos 2 ∷ pos 6 ∷ pos 3 ∷ [])
@@ -48,7 +49,13 @@ halves =
 
 -- vertex 0 has five edges
 abbrev uneven : District
-uneven = record { vertices = 3; reserved = 0; ends = (0, 1) ∷ (0, 1) ∷ (0, 1) ∷ (0, 2) ∷ (0, 2) ∷ (1, 2) ∷ []; costs = replicate 6 (pos 1) }
+uneven = record {
+  vertices = 3;
+  reserved = 0;
+  ends = (0, 1) ∷ (0, 1) ∷ (0, 1) ∷ (0, 2) ∷ (0, 2) ∷ (1, 2) ∷ [];
+  costs =
+      replicate 6 (pos 1);
+}
 
 pub data Case : Type 0 where
   -- the planner's steps v, x, y and dropped edge, the kept edges, their cost and that of all but the reserved
@@ -64,7 +71,8 @@ table =
     ∷ plans (two (pos 9 ∷ pos 1 ∷ pos 1 ∷ pos 1 ∷ [])) [] 3 (1 ∷ 2 ∷ []) (pos 2) (pos 3)
     ∷ plans (two (pos 0 ∷ minus 4 ∷ minus 4 ∷ minus 6 ∷ [])) [] 2 (1 ∷ 3 ∷ []) (minus 10) (minus 14)
     ∷ plans T ((1, 4, 5) ∷ []) 3 (1 ∷ 2 ∷ 5 ∷ []) (pos 8) (pos 16)
-    ∷ plans (triangle (pos 7 ∷ pos 40 ∷ pos 1 ∷ pos 2 ∷ pos 6 ∷ pos 3 ∷ [])) ((1, 4, 5) ∷ []) 1 (2 ∷ 3 ∷ 4 ∷ 5 ∷ []) (pos 12) (pos 52)
+    ∷ plans (triangle (pos 7 ∷ pos 40 ∷ pos 1 ∷ pos 2 ∷ pos 6 ∷ pos 3 ∷ [])) ((1, 4, 5) ∷ []) 1 (2 ∷ 3 ∷ 4 ∷ 5 ∷ [])
+    (pos 12) (pos 52)
     ∷ plans (triangle (replicate 6 (pos 1))) ((1, 4, 5) ∷ []) 3 (1 ∷ 2 ∷ 5 ∷ []) (pos 3) (pos 5)
     ∷ plans square ((2, 3, 2) ∷ (3, 5, 7) ∷ []) 1 (0 ∷ 2 ∷ 6 ∷ 7 ∷ []) (pos 11) (pos 23)
     ∷ breaks (2, 4, 5) 3 8
@@ -79,13 +87,6 @@ table =
 -- and a chain that document 01 does not mark: x is admissible and y, parallel to the reserved edge, is not
 abbrev pub unmarked : List Case
 unmarked = breaks (1, 4, 1) 3 10 ∷ []
-
--- an audit of T: the list, whether it connects all vertices, how many it reaches, how many of it are critical
-abbrev pub Audit : Type 0
-Audit = List ℕ × Bool × ℕ × ℕ
-
-abbrev pub audits : List Audit
-audits = (1 ∷ 2 ∷ 5 ∷ [], true, 3, 0) ∷ (1 ∷ 2 ∷ [], true, 3, 2) ∷ (4 ∷ 5 ∷ [], false, 1, 2) ∷ ([], false, 1, 0) ∷ []
 
 -- whether a test holds of every row
 unfoldable pub every : {A : Type 0} → (A → Bool) → List A → Bool

@@ -1,11 +1,9 @@
-pub mod Fold
 pub mod Network
 pub mod Cut
 pub mod Split
 pub mod Chain
 pub mod Back
 pub mod Plan
-pub mod Connection
 pub mod Sound
 pub mod Condition
 pub mod State

@@ -5,7 +5,7 @@ use Prim.Native.Nat.{ℕ, _+_}
 use lib.Dec.{eqb}
 use lib.ListN.{getD}
 use lib.IntN.{ℤ, pos}
-use Rattle.graph.specs.Fold.{sum, sumℤ, bit}
+use Rattle.base.specs.Fold.{sum, sumℤ, bit}
 use Rattle.graph.specs.declared.Network.{Network}
 
 -- the ends of an edge (a cable's ends)

@@ -4,7 +4,7 @@ use mathlib.Core.List.{List, [], _∷_}
 use Prim.Native.Nat.{ℕ, zero, suc, max}
 use lib.ListN.{getD}
 use lib.Signed.{leZ, ltZ}
-use Rattle.graph.specs.Fold.{only}
+use Rattle.base.specs.Fold.{only}
 use Rattle.graph.specs.Network.{lowEnd, highEnd, costOf}
 use Rattle.graph.specs.Split.{partners, admissible, third, after}
 use Rattle.graph.specs.Chain.{lastEdges, endKept, lift}
@@ -20,12 +20,16 @@ unfoldable pub ordered : Network → ℕ → ℕ → ℕ → Step
 ordered g v i j =
     cond (ltZ (costOf g i) (costOf g j)) (record { v = v; x = j; y = i }) (record { v = v; x = i; y = j })
 
--- the step with the two lowest-numbered admissible partners
-unfoldable pub chosenStep : Network → Step
-chosenStep g =
+-- the two lowest-numbered admissible partners at the chosen vertex, the lower number first
+unfoldable pub chosenPair : Network → ℕ × ℕ
+chosenPair g =
     let v = chosenVertex g in
     let usable = only (admissible g v) (partners g v) in
-    ordered g v (getD usable 0 0) (getD usable 1 0)
+    (getD usable 0 0, getD usable 1 0)
+
+-- the step with these two, ordered by cost
+unfoldable pub chosenStep : Network → Step
+chosenStep g = ordered g (chosenVertex g) (chosenPair g .0) (chosenPair g .1)
 
 -- the dearest of d and a list's edges; of equally dear ones the last
 unfoldable pub dearestOf : Network → ℕ → List ℕ → ℕ

@@ -5,7 +5,7 @@ use mathlib.Core.Path.{_≡_}
 use Prim.Native.Nat.{ℕ, _≤_, _<_, _^_}
 use lib.ListN.{length}
 use lib.IntN.{pos, natAbs}
-use Rattle.graph.specs.Fold.{sum, bit}
+use Rattle.base.specs.Fold.{sum, bit}
 use Rattle.graph.specs.Network.{lowEnd, highEnd, costOf, here, degree}
 use Rattle.graph.specs.Cut.{EveryCut}
 use Rattle.graph.specs.declared.Network.{Network}

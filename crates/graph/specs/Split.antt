@@ -5,7 +5,7 @@ use Prim.Native.Nat.{ℕ, _-_}
 use lib.Dec.{eqb}
 use lib.ListN.{getD, set}
 use lib.IntN.{ℤ, pos, _-ℤ_}
-use Rattle.graph.specs.Fold.{pick, without}
+use Rattle.base.specs.Fold.{pick, without}
 use Rattle.graph.specs.Network.{touches, far}
 use Rattle.graph.specs.Cut.{EveryCut, everyCut}
 use Rattle.graph.specs.declared.Network.{Network}
@@ -30,7 +30,8 @@ costAfter cx cy cz = cz -ℤ cx
 -- the costs after a split: z's new one, and nothing for retired edges
 abbrev pub splitCosts : List ℤ → ℕ → ℕ → ℕ → List ℤ
 splitCosts costs x y z =
-    set (set (set costs z (costAfter (getD costs x (pos 0)) (getD costs y (pos 0)) (getD costs z (pos 0)))) x (pos 0)) y (pos 0)
+    set (set (set costs z (costAfter (getD costs x (pos 0)) (getD costs y (pos 0)) (getD costs z (pos 0)))) x (pos 0)) y
+    (pos 0)
 
 -- splitting off v with partner x, the others being y and z: the reserved edge runs on to the far end of x,
 -- z runs from the far end of y to its own, x and y retire, and v leaves

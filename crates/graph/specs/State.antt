@@ -1,21 +1,15 @@
 -- What the code over a network asks for and answers.
-use mathlib.Core.Bool.{cond}
+use mathlib.Core.Bool.{Bool, false, cond}
 use mathlib.Core.List.{List}
 use Prim.Native.Nat.{ℕ, _+_, _≤_, _<_}
 use lib.Dec.{eqb}
-use lib.ListN.{length, getD, set}
-use Rattle.graph.specs.Fold.{sum, tabulate}
+use lib.ListN.{length, getD, set, replicate}
+use Rattle.base.specs.Limits.{vertexLimit, edgeLimit}
+use Rattle.base.specs.Fold.{sum, tabulate}
 use Rattle.graph.specs.Network.{endsAt}
 use Rattle.graph.specs.Sound.{Light}
 use Rattle.graph.specs.declared.Network.{Network}
 use Rattle.graph.specs.declared.incidence.Partners.{Partners}
-
--- the most vertices and edges that the columns have room for
-abbrev pub vertexLimit : ℕ
-vertexLimit = 256
-
-abbrev pub edgeLimit : ℕ
-edgeLimit = 512
 
 -- what splitting with x, y and z needs: a vertex to take off, edges of the network, and costs whose difference fits
 pub record Splittable (g : Network) (x y z : ℕ) : Type 0 where
@@ -48,3 +42,7 @@ oneMore p e =
       second = cond (eqb (p .count) 1) e (p .second);
       third = cond (eqb (p .count) 2) e (p .third);
     }
+
+-- marks of no edge
+abbrev pub noMarks : List Bool
+noMarks = replicate edgeLimit false

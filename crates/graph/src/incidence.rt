@@ -2,10 +2,11 @@
 ghost use mathlib.Core.Path.{_≡_};
 ghost use Prim.Native.Nat.{_≤_, _<_};
 ghost use Rattle.graph.specs.Split.{isPartner, partners};
-ghost use Rattle.graph.specs.State.{edgeLimit, firstThree, oneMore};
+ghost use Rattle.base.specs.Limits.{edgeLimit};
+ghost use Rattle.graph.specs.State.{firstThree, oneMore};
 ghost use Rattle.graph.specs.declared.Network.{Network};
-use crate::EDGE_LIMIT;
 use crate::Network;
+use base::EDGE_LIMIT;
 
 // How many partners a vertex has, and the first three, 0 for each that there is not.
 pub struct Partners {
@@ -73,7 +74,8 @@ fn is_partner<'a>(
     v: u8,
 ) -> bool
     requires { ⌜ e < edgeLimit ⌝ }
-    ensures { λ r. ⌜ ((g : Network) → g .low ≡ now (low .entry) → g .high ≡ now (high .entry) → g .reserved ≡ reserved → r ≡ isPartner g v e) ⌝ }
+    ensures { λ r. ⌜ ((g : Network) → g .low ≡ now (low .entry) → g .high ≡ now (high .entry) → g .reserved ≡ reserved
+        → r ≡ isPartner g v e) ⌝ }
 {
     if e == reserved {
         return false;

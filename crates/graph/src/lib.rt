@@ -1,22 +1,22 @@
 // The state of a network, and what a step does to it.
+use base::EDGE_LIMIT;
+use base::VERTEX_LIMIT;
+
 mod incidence;
 mod kept;
 mod tally;
 
 pub use incidence::Partners;
 pub use kept::Kept;
+pub use kept::lift_marks;
 pub use tally::Degrees;
 ghost use mathlib.Core.Path.{_≡_};
 ghost use Prim.Native.Nat.{_<_};
 ghost use Rattle.graph.specs.Network.{far};
 ghost use Rattle.graph.specs.Split.{split};
-ghost use Rattle.graph.specs.State.{edgeLimit, Splittable};
+ghost use Rattle.base.specs.Limits.{edgeLimit};
+ghost use Rattle.graph.specs.State.{Splittable};
 ghost use Rattle.graph.specs.declared.Network.{Network};
-
-// The most vertices and edges of a network.
-pub const VERTEX_LIMIT: usize = 256;
-
-pub const EDGE_LIMIT: usize = 512;
 
 // A network by value: edge e joins low[e] and high[e] at a working cost.
 // A retired edge is a loop at the vertex that left, at cost 0, so it crosses no cut and costs nothing.

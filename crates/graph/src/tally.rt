@@ -3,12 +3,13 @@ ghost use mathlib.Core.Path.{_≡_};
 ghost use Prim.Native.Nat.{_+_, _≤_, _<_, _^_};
 ghost use lib.Dec.{eqb};
 ghost use lib.ListN.{getD};
-ghost use Rattle.graph.specs.Fold.{each, tabulate};
+ghost use Rattle.base.specs.Fold.{each, tabulate};
 ghost use Rattle.graph.specs.Network.{degree};
 ghost use Rattle.graph.specs.Cut.{fourEach};
-ghost use Rattle.graph.specs.State.{vertexLimit, edgeLimit, endCounted};
+ghost use Rattle.base.specs.Limits.{vertexLimit, edgeLimit};
+ghost use Rattle.graph.specs.State.{endCounted};
 use crate::Network;
-use crate::VERTEX_LIMIT;
+use base::VERTEX_LIMIT;
 
 // How many ends of edges are at each vertex.
 pub struct Degrees {

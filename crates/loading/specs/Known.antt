@@ -3,7 +3,7 @@ use mathlib.Core.Path.{_≡_}
 use Prim.Native.Nat.{_≤_}
 use lib.ListN.{length}
 use Rattle.graph.specs.Sound.{Fresh, Light}
-use Rattle.graph.specs.State.{edgeLimit, vertexLimit}
+use Rattle.base.specs.Limits.{fewestVertices, edgeLimit, vertexLimit}
 use Rattle.graph.specs.declared.Network.{Network}
 
 pub record Known (g : Network) : Type 0 where
@@ -11,8 +11,8 @@ pub record Known (g : Network) : Type 0 where
   pub fresh : Fresh g
   -- its costs' sizes sum to less than 2 to the power 62
   pub light : Light g
-  -- it has at least two vertices
-  pub several : 2 ≤ g .vertices
+  -- it has at least as many vertices as a network has
+  pub several : fewestVertices ≤ g .vertices
   -- the state has room for its vertices
   pub vertex-room : g .vertices ≤ vertexLimit
   -- and for its edges

@@ -1,2 +1,3 @@
 pub mod Known
 pub mod Loading
+pub mod ListLoading

@@ -1,15 +1,13 @@
 -- The state of a network that is read from its text.
-use mathlib.Core.Bool.{false}
 use mathlib.Core.List.{List}
-use mathlib.Core.Path.{_≡_}
-use Prim.Native.Nat.{ℕ, _*_, _≤_, _<_}
+use Prim.Native.Nat.{ℕ, _*_}
 use lib.Dec.{ltb}
-use lib.ListN.{length, getD, replicate}
+use lib.ListN.{replicate}
 use lib.IntN.{ℤ, pos}
-use Rattle.frame.specs.Answer.{Answer, refused, answer, andThen, over}
-use Rattle.texts.specs.Networks.{Meaning, readNetwork}
-use Rattle.graph.specs.Fold.{tabulate}
-use Rattle.graph.specs.State.{edgeLimit, vertexLimit}
+use Rattle.base.specs.Answer.{Answer, refused, answer, andThen, over}
+use Rattle.network_text.specs.Text.{Meaning, readNetwork}
+use Rattle.base.specs.Fold.{tabulate}
+use Rattle.base.specs.Limits.{edgeLimit, vertexLimit}
 use Rattle.graph.specs.declared.Network.{Network}
 use Rattle.loading.specs.declared.Loaded.{Loaded}
 
@@ -27,11 +25,17 @@ stateOf n r low high cost =
       remaining = n;
     }
 
+-- columns of the state in which every edge is a loop at vertex 0 that costs nothing
+abbrev pub noEnds : List ℕ
+noEnds = replicate edgeLimit 0
+
+abbrev pub noCosts : List ℤ
+noCosts = replicate edgeLimit (pos 0)
+
 -- the network of a meaning: its columns stand at the start of the state's
 unfoldable pub networkOf : Meaning → Network
 networkOf m =
-    stateOf (m .vertices) (m .reserved) (over (m .low) (replicate edgeLimit 0)) (over (m .high) (replicate edgeLimit 0))
-    (over (m .cost) (replicate edgeLimit (pos 0)))
+    stateOf (m .vertices) (m .reserved) (over (m .low) noEnds) (over (m .high) noEnds) (over (m .cost) noCosts)
 
 -- the network of a text, or the text's first refusal
 unfoldable pub loadNetwork : List ℕ → Answer Network
@@ -39,32 +43,7 @@ loadNetwork t = andThen (readNetwork t) (λ m. answer (networkOf m))
 
 -- the network without vertices and edges, which stands where a refusal leaves none
 unfoldable pub noNetwork : Network
-noNetwork =
-    record {
-      low = replicate edgeLimit 0;
-      high = replicate edgeLimit 0;
-      cost = replicate edgeLimit (pos 0);
-      present = replicate vertexLimit false;
-      reserved = 0;
-      edges = 0;
-      vertices = 0;
-      remaining = 0;
-    }
-
--- ── what the code asks for and answers ──
-
--- a column of numbers that fit a byte, and a column of bytes as long
-pub record Narrow (column out : List ℕ) : Type 0 where
-  pub small : (i : ℕ) → i < length column → getD column i 0 < 256
-  pub alike : length out ≡ length column
-
--- columns of vertices that fit the state
-pub record Stated (n : ℕ) (low high : List ℕ) : Type 0 where
-  pub few : n ≤ vertexLimit
-  pub low-long : length low ≡ edgeLimit
-  pub high-long : length high ≡ edgeLimit
-  pub low-small : (i : ℕ) → i < edgeLimit → getD low i 0 < 256
-  pub high-small : (i : ℕ) → i < edgeLimit → getD high i 0 < 256
+noNetwork = stateOf 0 0 noEnds noEnds noCosts
 
 -- a refusal's number and no network, or 0 and the network
 unfoldable pub loadedOf : Answer Network → Loaded

@@ -1,33 +1,30 @@
 // A network text read into the state.
-use graph::EDGE_LIMIT;
+use base::EDGE_LIMIT;
+use base::FORM;
+use base::VERTEX_LIMIT;
 use graph::Network;
-use graph::VERTEX_LIMIT;
-use texts::ReadNetwork;
-use texts::read_network;
+use network_text::ReadEdge;
+use network_text::ReadHead;
+use network_text::read_edge;
+use network_text::read_head;
 ghost use mathlib.Core.Path.{_≡_};
-ghost use Prim.Native.Nat.{_<_};
+ghost use Prim.Native.Nat.{_≤_};
 ghost use lib.Dec.{ltb};
 ghost use lib.ListN.{length};
-ghost use Rattle.graph.specs.Fold.{tabulate};
-ghost use Rattle.graph.specs.State.{vertexLimit};
-ghost use Rattle.loading.specs.Loading.{loadNetwork, loadedOf, stateOf, noNetwork, Narrow, Stated};
+ghost use Rattle.base.specs.Answer.{refused};
+ghost use Rattle.base.specs.Fold.{tabulate};
+ghost use Rattle.base.specs.Limits.{vertexLimit};
+ghost use Rattle.loading.specs.Loading.{stateOf, noEnds, noCosts, loadNetwork, noNetwork, loadedOf};
+
+mod list;
+
+pub use list::LoadedList;
+pub use list::load_list;
 
 // A refusal's number and no network, or 0 and the network.
 pub struct Loaded {
     pub refusal: u8,
     pub network: Network,
-}
-
-// A column of vertices in bytes.
-fn narrow(column: &[u16], out: &mut [u8])
-    requires { ⌜ Narrow (now column) (now out) ⌝ }
-    ensures { λ r. ⌜ now (out .exit) ≡ now (column .entry) ⌝ }
-{
-    let mut i = 0;
-    while i < column.len() {
-        out[i] = column[i] as u8;
-        i += 1;
-    }
 }
 
 // Which vertices are present: the first so many.
@@ -42,27 +39,17 @@ fn present(vertices: usize, out: &mut [bool])
     }
 }
 
-// The state with these columns.
-fn state(
-    vertices: usize,
-    reserved: usize,
-    low: &[u16],
-    high: &[u16],
-    cost: [i64; EDGE_LIMIT],
-) -> Network
-    requires { ⌜ Stated vertices (now low) (now high) ⌝ }
-    ensures { λ r. ⌜ r ≡ stateOf vertices reserved (now (low .entry)) (now (high .entry)) cost ⌝ }
+// The state of so many vertices before its edges are read: its columns hold 0.
+fn bare(vertices: usize, reserved: usize) -> Network
+    requires { ⌜ vertices ≤ vertexLimit ⌝ }
+    ensures { λ r. ⌜ r ≡ stateOf vertices reserved noEnds noEnds noCosts ⌝ }
 {
-    let mut low_bytes = [0u8; EDGE_LIMIT];
-    let mut high_bytes = [0u8; EDGE_LIMIT];
     let mut here = [false; VERTEX_LIMIT];
-    narrow(low, &mut low_bytes);
-    narrow(high, &mut high_bytes);
     present(vertices, &mut here);
     Network {
-        low: low_bytes,
-        high: high_bytes,
-        cost,
+        low: [0; EDGE_LIMIT],
+        high: [0; EDGE_LIMIT],
+        cost: [0; EDGE_LIMIT],
         present: here,
         reserved,
         edges: 2 * vertices,
@@ -75,36 +62,46 @@ fn state(
 pub fn nothing() -> Network
     ensures { λ r. ⌜ r ≡ noNetwork ⌝ }
 {
-    Network {
-        low: [0; EDGE_LIMIT],
-        high: [0; EDGE_LIMIT],
-        cost: [0; EDGE_LIMIT],
-        present: [false; VERTEX_LIMIT],
-        reserved: 0,
-        edges: 0,
-        vertices: 0,
-        remaining: 0,
-    }
+    bare(0, 0)
+}
+
+// A refusal's number and no network.
+fn refuse(refusal: u8) -> Loaded
+    ensures { λ r. ⌜ r ≡ loadedOf (refused refusal) ⌝ }
+{
+    let network = nothing();
+    Loaded { refusal, network }
 }
 
 // Reads a network text into the state: the text's first refusal, or the network.
 pub fn load(text: &[u8]) -> Loaded
     ensures { λ r. ⌜ r ≡ loadedOf (loadNetwork (now (text .entry))) ⌝ }
 {
-    let mut low = [0u16; EDGE_LIMIT];
-    let mut high = [0u16; EDGE_LIMIT];
-    let mut cost = [0i64; EDGE_LIMIT];
-    match read_network(text, &mut low, &mut high, &mut cost) {
-        ReadNetwork::Refused(refusal) => {
-            let network = nothing();
-            Loaded { refusal, network }
-        }
-        ReadNetwork::Read { vertices, reserved } => {
-            let network = state(vertices, reserved, &low, &high, cost);
-            Loaded {
-                refusal: 0,
-                network,
-            }
-        }
+    let start = read_head(text);
+    let ReadHead::Read(head, first) = start else {
+        return refuse(start.refusal());
+    };
+    let vertices = head.vertices as usize;
+    let mut network = bare(vertices, head.reserved as usize);
+    let mut at = first;
+    let mut i = 0;
+    while i < 2 * vertices {
+        let read = read_edge(text, at, vertices, i);
+        let ReadEdge::Read(edge, next) = read else {
+            return refuse(read.refusal());
+        };
+        network.low[i] = edge.lower as u8;
+        network.high[i] = edge.higher as u8;
+        let c = edge.cost;
+        network.cost[i] = c;
+        at = next;
+        i += 1;
+    }
+    if at < text.len() {
+        return refuse(FORM);
+    }
+    Loaded {
+        refusal: 0,
+        network,
     }
 }

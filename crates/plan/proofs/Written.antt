@@ -4,18 +4,19 @@ use mathlib.Core.List.{List}
 use Prim.Native.Nat.{ℕ, _≤_}
 use native.Mathlib.Omega.{arith}
 use lib.ListN.{length}
-use Rattle.frame.specs.Answer.{Answer, refused, answer}
-use Rattle.texts.specs.Kept.{longestKept}
+use Rattle.base.proofs.Bools.{no-answer}
+use Rattle.base.specs.Answer.{Answer, refused, answer}
+use Rattle.base.specs.Lengths.{longestKept, longestChain}
 use Rattle.thinning.specs.declared.planner.Planned.the-variants.{Written}
-use Rattle.thinning.specs.Plans.{longestChain}
 use Rattle.thinning.specs.Services.{Texts, planText, plannedOf}
 use Rattle.thinning.proofs.Longest.{plan-lengths}
 
-pub written-short : (network : List ℕ) (c k : ℕ) → Written c k ≡ plannedOf (planText network) → (c ≤ longestChain) × (k ≤ longestKept)
+pub written-short : (network : List ℕ) (c k : ℕ) → Written c k ≡ plannedOf (planText network)
+    → (c ≤ longestChain) × (k ≤ longestKept)
 written-short network c k h = go (planText network) refl h
   where
     go : (a : Answer Texts) → planText network ≡ a → Written c k ≡ plannedOf a → (c ≤ longestChain) × (k ≤ longestKept)
-    go (refused j) e h = unfold plannedOf in let z : _≡_ {A = ℕ} 0 1 = cc in absurd (omega arith)
+    go (refused j) e h = unfold plannedOf in no-answer (cc)
     go (answer t) e h =
         let l = plan-lengths network t e in
         unfold plannedOf in

@@ -1,26 +1,24 @@
 // The plan program: reads a network text, and writes its chain text and kept text, or one refusal line.
-use frame::Reply;
+use base::LONGEST_CHAIN;
+use base::LONGEST_KEPT;
+use base::LONGEST_NETWORK;
+use base::Reply;
 use libc::STDIN_FILENO;
 use libc::STDOUT_FILENO;
-use texts::LONGEST_NETWORK;
-use texts::write_refusal;
+use list_text::write_refusal;
 use thinning::Planned;
 use thinning::plan;
 ghost use mathlib.Core.Path.{_≡_};
 ghost use Prim.Native.Nat.{_≤_, _<_};
 ghost use lib.ListN.{length};
 ghost use Rattle.io.specs.Counts.{Counts};
-ghost use Rattle.frame.specs.Answer.{filled};
-ghost use Rattle.texts.specs.Networks.{longestNetwork};
-ghost use Rattle.texts.specs.Kept.{longestKept};
-ghost use Rattle.thinning.specs.Plans.{longestChain};
+ghost use Rattle.base.specs.Answer.{filled};
+ghost use Rattle.base.specs.Lengths.{longestNetwork, longestKept, longestChain};
 ghost use Rattle.thinning.specs.Services.{planText, plannedOf};
 
-// One byte more than the longest network text has: a longer input is answered as these bytes are (the laws `first-bytes` of crate texts and `plan-first` of crate thinning).
+// One byte more than the longest network text has: a longer input is answered as these bytes are (the laws
+// `first-bytes` of crate network_text and `plan-first` of crate thinning).
 const INPUT_ROOM: usize = LONGEST_NETWORK + 1;
-
-// Room for the longest chain text and for the longest kept text: no plan is refused for want of it (the law `every-plan-fits` of crate thinning).
-const OUTPUT_ROOM: usize = 4096;
 
 // Room for the line of a refusal.
 const LINE_ROOM: usize = 16;
@@ -42,20 +40,23 @@ fn read_input(input: &mut [u8]) -> usize
     io::read_full(STDIN_FILENO, input)
 }
 
-// Plans a network text into buffers that have room for the longest texts, so never 13.
+// Plans a network text into buffers that have room for the longest texts, so never 13 (the law `every-plan-fits` of
+// crate thinning).
 fn plan_roomy(network: &[u8], chain: &mut [u8], kept: &mut [u8]) -> Planned
     requires { ⌜ (longestChain ≤ length (now chain)) × (longestKept ≤ length (now kept)) ⌝ }
     ensures reply { λ r. ⌜ r ≡ plannedOf (planText (now (network .entry))) ⌝ }
-    ensures chain { λ r. ⌜ now (chain .exit) ≡ filled (λ t. t .chain) (planText (now (network .entry))) (now (chain .entry)) ⌝ }
-    ensures kept { λ r. ⌜ now (kept .exit) ≡ filled (λ t. t .kept) (planText (now (network .entry))) (now (kept .entry)) ⌝ }
+    ensures chain { λ r.
+        ⌜ now (chain .exit) ≡ filled (λ t. t .chain) (planText (now (network .entry))) (now (chain .entry)) ⌝ }
+    ensures kept { λ r. ⌜ now (kept .exit)
+        ≡ filled (λ t. t .kept) (planText (now (network .entry))) (now (kept .entry)) ⌝ }
 {
     plan(network, chain, kept)
 }
 
 // Plans a network text and writes what is due.
 fn answer(network: &[u8]) {
-    let mut chain = [0u8; OUTPUT_ROOM];
-    let mut kept = [0u8; OUTPUT_ROOM];
+    let mut chain = [0u8; LONGEST_CHAIN];
+    let mut kept = [0u8; LONGEST_KEPT];
     match plan_roomy(network, &mut chain, &mut kept) {
         Planned::Written {
             chain: chain_length,

@@ -5,22 +5,21 @@ use mathlib.Core.List.{List}
 use Prim.Native.Nat.{ℕ, zero, suc, _-_, _≤_}
 use native.Mathlib.Omega.{arith}
 use lib.ListN.{length}
-use Rattle.frame.specs.Answer.{Answer, refused, answer, andThen}
-use Rattle.texts.specs.Limits.{unless}
-use Rattle.texts.specs.Networks.{Meaning, readNetwork}
-use Rattle.texts.proofs.Numbered.{Numbered, answered, unless-numbered, then-numbered, numbered-up}
+use Rattle.base.proofs.Bools.{no-answer}
+use Rattle.base.specs.Answer.{Answer, refused, answer, andThen, unless}
+use Rattle.network_text.specs.Text.{Meaning, readNetwork}
+use Rattle.base.proofs.Numbered.{Numbered, answered, unless-numbered, then-numbered, numbered-up}
 use Rattle.loading.specs.Known.{Known}
 use Rattle.loading.specs.Loading.{networkOf, loadNetwork}
 use Rattle.loading.proofs.Reading.{load-numbered, loaded-known}
 use Rattle.graph.specs.Cut.{everyCut, fourEach, networkRefusal}
-use Rattle.graph.specs.Chain.{refused as refusedWith, keeps}
-use Rattle.graph.specs.State.{vertexLimit}
+use Rattle.base.specs.Limits.{vertexLimit}
 use Rattle.graph.specs.declared.Network.{Network}
 use Rattle.graph.proofs.Backs.{passes-good}
 use Rattle.graph.proofs.Condition.{accepted-sound, fresh-remaining}
 use Rattle.graph.proofs.Numbers.{network-number}
 use Rattle.thinning.specs.declared.network.Acceptance.the-variants.{Accepted, Refused}
-use Rattle.thinning.specs.Running.{Running, Keeping}
+use Rattle.rules.specs.Running.{Running, Keeping}
 use Rattle.thinning.specs.Verdicts.{checkChain}
 use Rattle.thinning.specs.Services.{acceptNetwork, acceptanceOf, keptIn, checkChainText}
 use Rattle.thinning.proofs.ChainTexts.{bytes-meant}
@@ -44,14 +43,17 @@ pub accept-refused : (t : List ℕ) (k : ℕ) → loadNetwork t ≡ refused k �
 unfolding acceptNetwork andThen
 accept-refused t k e = rw e
 
-pub accept-judged : (t : List ℕ) (g : Network) (k : ℕ) → loadNetwork t ≡ answer g → k ≡ networkRefusal g → acceptNetwork t ≡ unless k (answer g)
+pub accept-judged : (t : List ℕ) (g : Network) (k : ℕ) → loadNetwork t ≡ answer g → k ≡ networkRefusal g
+    → acceptNetwork t ≡ unless k (answer g)
 unfolding acceptNetwork andThen
 accept-judged t g k e q = rw (e, q)
 
 -- the refusals of the network check are 1 to 7
 pub accept-numbered : (t : List ℕ) → Numbered 7 (acceptNetwork t)
 unfolding acceptNetwork
-accept-numbered t = then-numbered (loadNetwork t) _ (numbered-up (omega arith) (load-numbered t)) (λ g. unless-numbered (networkRefusal g) _ (network-number g) (answered g))
+accept-numbered t =
+    then-numbered (loadNetwork t) _ (numbered-up (omega arith) (load-numbered t))
+    (λ g. unless-numbered (networkRefusal g) _ (network-number g) (answered g))
 
 pub answered-refused : (a : Answer Network) (k : ℕ) → a ≡ refused k → Refused k ≡ acceptanceOf a
 unfolding acceptanceOf
@@ -73,19 +75,24 @@ pub accepted-whole : (t : List ℕ) (g : Network) → acceptNetwork t ≡ answer
 unfolding acceptNetwork loadNetwork andThen
 accepted-whole t g e = go (readNetwork t) refl e
   where
-    judged : (h : Network) (k : ℕ) → networkRefusal h ≡ k → unless k (answer h) ≡ answer g → (networkRefusal h ≡ 0) × (h ≡ g)
+    judged : (h : Network) (k : ℕ) → networkRefusal h ≡ k → unless k (answer h) ≡ answer g
+        → (networkRefusal h ≡ 0) × (h ≡ g)
     judged h zero q e = unfold unless in (q, cc)
-    judged h (suc k) q e = unfold unless in let z : _≡_ {A = ℕ} 0 1 = cc in absurd (omega arith)
+    judged h (suc k) q e = unfold unless in no-answer (cc)
 
     go : (a : Answer Meaning) → readNetwork t ≡ a
-        → andThen (andThen a (λ m. answer (networkOf m))) (λ g. unless (networkRefusal g) (answer g)) ≡ answer g → Whole t g
-    go (refused k) q e = unfold andThen in let z : _≡_ {A = ℕ} 0 1 = cc in absurd (omega arith)
+        → andThen (andThen a (λ m. answer (networkOf m))) (λ g. unless (networkRefusal g) (answer g)) ≡ answer g
+        → Whole t g
+    go (refused k) q e = unfold andThen in no-answer (cc)
     go (answer m) q e = unfold andThen in
         let w = judged (networkOf m) (networkRefusal (networkOf m)) refl e in
-        rw (← w .1) (record { meaning = m; read = q; state-is = refl; known = loaded-known t (networkOf m) (unfold loadNetwork andThen in rw q); passed = w .0 })
+        let loaded : loadNetwork t ≡ answer (networkOf m) = unfold loadNetwork andThen in rw q in
+        let known = loaded-known t (networkOf m) loaded in
+        rw (← w .1) (record { meaning = m; read = q; state-is = refl; known = known; passed = w .0 })
 
 -- a network that reads and is not refused is accepted
-pub whole-accepted : (t : List ℕ) (m : Meaning) → readNetwork t ≡ answer m → networkRefusal (networkOf m) ≡ 0 → acceptNetwork t ≡ answer (networkOf m)
+pub whole-accepted : (t : List ℕ) (m : Meaning) → readNetwork t ≡ answer m → networkRefusal (networkOf m) ≡ 0
+    → acceptNetwork t ≡ answer (networkOf m)
 unfolding acceptNetwork loadNetwork andThen unless
 whole-accepted t m q p = rw (q, p)
 
@@ -108,11 +115,16 @@ remaining-few t g e = let k = accepted-whole t g e .known in omega (arith, fresh
 
 -- marks of a running network that are as long as its columns
 pub running-keeping : {g : Network} → Running g → (K : List Bool) → length K ≡ length (g .low) → Keeping g K
-running-keeping run K e = record
-    { light = run .light; edge-room = run .edge-room; reserved-room = omega (arith, run .sound .formed .reserved-below, run .edge-room); long = e ∙ run .long }
+running-keeping run K e = record {
+  light = run .light;
+  edge-room = run .edge-room;
+  reserved-room = omega (arith, run .sound .formed .reserved-below, run .edge-room);
+  long = e ∙ run .long;
+}
 
 -- what a passing chain keeps can be written
-pub passing-keeping : {g : Network} → Running g → (t : List ℕ) (K : List Bool) → checkChain (g .remaining - 2) g t ≡ keeps K → Keeping g K
+pub passing-keeping : {g : Network} → Running g → (t : List ℕ) (K : List Bool)
+    → checkChain (g .remaining - 2) g t ≡ answer K → Keeping g K
 passing-keeping {g} run t K e =
     let m = bytes-meant (g .remaining - 2) g t K (omega (arith, run .left)) e in
     running-keeping run K (passes-good (m .steps) (run .sound) (m .dropped) K (m .passes) .sized)
@@ -124,10 +136,12 @@ module _ (network chain : List ℕ) where
   chain-network-refused k e = rw e
 
   module _ (g : Network) (e : acceptNetwork network ≡ answer g) where
-    pub chain-refused : (k : ℕ) → checkChain (g .remaining - 2) g chain ≡ refusedWith k → checkChainText network chain ≡ refused k
+    pub chain-refused : (k : ℕ) → checkChain (g .remaining - 2) g chain ≡ refused k
+        → checkChainText network chain ≡ refused k
     unfolding checkChainText andThen keptIn
     chain-refused k h = rw (e, h)
 
-    pub chain-kept : (K : List Bool) → checkChain (g .remaining - 2) g chain ≡ keeps K → checkChainText network chain ≡ keptIn g (keeps K)
+    pub chain-kept : (K : List Bool) → checkChain (g .remaining - 2) g chain ≡ answer K
+        → checkChainText network chain ≡ keptIn g (answer K)
     unfolding checkChainText andThen
     chain-kept K h = rw (e, h)

@@ -1,4 +1,5 @@
--- The claim of condition 3, for every accepted network, whichever edge is reserved, whatever bytes are proposed and whatever buffers are lent.
+-- The claim of condition 3, for every accepted network, whichever edge is
+-- reserved, whatever bytes are proposed and whatever buffers are lent.
 use mathlib.Core.Path.{_≡_, refl, sym, _∙_, ap}
 use mathlib.Core.Logic.{_⊎_, inl, inr, ⊎-elim}
 use mathlib.Core.Bool.{Bool, true, false, cond, and-false}
@@ -9,44 +10,44 @@ use native.Mathlib.Decide.{decLt}
 use lib.Dec.{eqb}
 use lib.ListN.{length}
 use borrow.Author.Tests.{eq-eqb, le-leb, lt-leb}
-use Rattle.frame.specs.Answer.{Answer, refused as refusedBy, answer, andThen, roomIn, SHORT}
-use Rattle.frame.specs.declared.reply.Reply.the-variants.{Refused}
-use Rattle.frame.proofs.Answers.{given-fits, given-short, refuses, fits, short}
-use Rattle.texts.specs.Networks.{Meaning, meant as meaning}
-use Rattle.texts.proofs.NetworksRoundTrip.{read-written, written-read, any-reserved}
-use Rattle.texts.proofs.NetworksMeaning.{read-valid}
+use Rattle.base.proofs.Bools.{no-answer, same-test}
+use Rattle.base.specs.Answer.{Answer, refused as refusedBy, answer, andThen, roomIn, refused}
+use Rattle.base.specs.Refusals.{SHORT}
+use Rattle.base.specs.declared.reply.Reply.the-variants.{Refused}
+use Rattle.base.proofs.Answers.{given-fits, given-short, refuses, fits, short}
+use Rattle.network_text.specs.Text.{Meaning, meant as meaning}
+use Rattle.network_text.proofs.OneToOne.{read-written, written-read, any-reserved}
+use Rattle.network_text.proofs.Meaning.{read-valid}
 use Rattle.loading.specs.Loading.{stateOf, networkOf}
 use Rattle.loading.proofs.Meanings.{loaded-fresh}
-use Rattle.texts.specs.Kept.{keptEdges, keptText, pick as keptPick}
-use Rattle.graph.specs.Fold.{among, pick}
+use Rattle.list_text.specs.Kept.{keptEdges, keptText}
+use Rattle.base.specs.Fold.{among, pick}
 use Rattle.graph.specs.Network.{endsAt, degree, kept, keptCost, allButReserved}
 use Rattle.graph.specs.Cut.{crosses, crossingsOf, EveryCutOf, crossedBy, everyCutOf, fourEach, networkRefusal}
-use Rattle.graph.specs.Chain.{Verdict, refused, keeps}
 use Rattle.graph.specs.Plan.{planSteps, planDrop, planKept}
 use Rattle.graph.specs.Sound.{Formed, Fresh}
 use Rattle.graph.specs.declared.Network.{Network}
-use Rattle.graph.proofs.Sums.{each-in, pick-among, among-pick}
+use Rattle.base.proofs.Sums.{each-in, pick-among, among-pick}
 use Rattle.graph.proofs.EveryCut.{every-cut-complete}
 use Rattle.graph.proofs.Checking.{passes-ruled}
 use Rattle.graph.proofs.Backs.{back-good, back-below, check-back, back-check}
 use Rattle.graph.proofs.Condition.{plan-checked}
 use Rattle.thinning.specs.declared.planner.Planned.the-variants as plan
-use Rattle.thinning.specs.Running.{Running}
+use Rattle.rules.specs.Running.{Running}
 use Rattle.thinning.specs.Verdicts.{checkChain}
 use Rattle.thinning.specs.Plans.{planChain}
-use Rattle.thinning.specs.Services.{acceptNetwork, keptOf, keptIn, checkChainText, chainReply, keptAfter, Texts, textsOf, planText, planRoom, planGiven, planReply}
-use Rattle.thinning.specs.Condition.{CrossesEach, Accepted, reserving, Ruled, Rising, Owed, Passes, PlanWrites, Claim}
+use Rattle.thinning.specs.Services.{acceptNetwork, keptTextOf, keptIn, checkChainText, chainReply, keptAfter}
+use Rattle.thinning.specs.Services.{Texts}
+use Rattle.thinning.specs.Services.{textsOf, planText, planRoom, planGiven, planReply}
+use Rattle.thinning.specs.Condition.{CrossesEach, Accepted, reserving, Ruled, Rising, Owed, Passes, PlanWrites}
+use Rattle.thinning.specs.Condition.{Claim}
 use Rattle.thinning.proofs.ChainTexts.{bytes-meant, meaning-passes}
-use Rattle.thinning.proofs.Accepting.{not-refused, accept-numbered, accepted-whole, whole-accepted, accepted-running, chain-network-refused, chain-kept}
+use Rattle.thinning.proofs.Accepting.{not-refused, accept-numbered, accepted-whole, whole-accepted}
+use Rattle.thinning.proofs.Accepting.{accepted-running, chain-network-refused, chain-kept}
 use Rattle.thinning.proofs.Handing.{handed-refused, handed-over, plan-refused}
 use Rattle.thinning.proofs.Meets.{chain-meets}
 
 -- ── the edges that a kept text lists ──
-same-pick : (n k : ℕ) (p : ℕ → Bool) → keptPick n k p ≡ pick n k p
-unfolding keptPick pick
-same-pick zero k p = refl
-same-pick (suc n) k p = ap (λ l. cond (p k) (k ∷ l) l) (same-pick n (suc k) p)
-
 picked-rise : (n k : ℕ) (p : ℕ → Bool) → Rising (pick n k p)
 unfolding pick
 picked-rise zero k p = tt
@@ -58,27 +59,34 @@ picked-rise (suc n) k p = go (p k) (picked-rise n (suc k) p)
 
 rising : (n : ℕ) (K : List Bool) → Rising (keptEdges n K)
 unfolding keptEdges
-rising n K = rw (same-pick n 0 (kept K)) (picked-rise n 0 (kept K))
+rising n K = picked-rise n 0 (kept K)
 
 -- marks of edges below n are those of the list
 listed : (n : ℕ) (K : List Bool) → ((e : ℕ) → kept K e ≡ true → e < n) → (e : ℕ) → among e (keptEdges n K) ≡ kept K e
 unfolding keptEdges
-listed n K below e = rw (same-pick n 0 (kept K)) (agree (among e (pick n 0 (kept K))) (kept K e) (λ h. pick-among n 0 (kept K) e h .2) (λ h. among-pick n 0 (kept K) e (omega arith) (omega (arith, below e h)) h))
-  where
-    agree : (a b : Bool) → (a ≡ true → b ≡ true) → (b ≡ true → a ≡ true) → a ≡ b
-    agree true b f g = sym (f refl)
-    agree false true f g = g refl
-    agree false false f g = refl
+listed n K below e =
+    same-test (among e (pick n 0 (kept K))) (kept K e) (λ h. pick-among n 0 (kept K) e h .2)
+    (λ h. among-pick n 0 (kept K) e (omega arith) (omega (arith, below e h)) h)
 
 -- ── accepted networks ──
 
 -- in a network as it is read the cuts are those of all vertices
 crosses-each : (k : ℕ) {g : Network} (K : ℕ → Bool) → Fresh g → EveryCutOf k g K → CrossesEach k g K
 crosses-each k K fresh h S i o li lo si so =
-    h S (record { inner = i; outer = o; inner-here = fresh .all-here i li; outer-here = fresh .all-here o lo; inner-in = si; outer-out = so })
+    h S (record {
+      inner = i;
+      outer = o;
+      inner-here = fresh .all-here i li;
+      outer-here = fresh .all-here o lo;
+      inner-in =
+          si;
+      outer-out = so;
+    })
 
 every-cut : (k : ℕ) {g : Network} (K : ℕ → Bool) → Formed g → CrossesEach k g K → EveryCutOf k g K
-every-cut k K formed h S d = h S (d .inner) (d .outer) (formed .here-below (d .inner) (d .inner-here)) (formed .here-below (d .outer) (d .outer-here)) (d .inner-in) (d .outer-out)
+every-cut k K formed h S d =
+    h S (d .inner) (d .outer) (formed .here-below (d .inner) (d .inner-here))
+    (formed .here-below (d .outer) (d .outer-here)) (d .inner-in) (d .outer-out)
 
 is-accepted : (t : List ℕ) (g : Network) → acceptNetwork t ≡ answer g → Accepted t g
 is-accepted t g e =
@@ -99,10 +107,12 @@ accepts {t} {g} a =
     whole-accepted t (a .meaning) q (ap networkRefusal (a .state-is) ∙ passed) ∙ ap answer (a .state-is)
   where
     formed : Formed g
-    formed = rw (← a .state-is) (loaded-fresh (read-valid t (a .meaning) (read-written (a .meaning) t (a .text-is))) .formed)
+    formed = rw (← a .state-is)
+        (loaded-fresh (read-valid t (a .meaning) (read-written (a .meaning) t (a .text-is))) .formed)
 
     four : fourEach g ≡ true
-    four = unfold fourEach in each-in (g .vertices) (λ v. eqb (degree g v) 4) (λ v l. eq-eqb (degree g v) 4 (a .degrees v l))
+    four = unfold fourEach in
+        each-in (g .vertices) (λ v. eqb (degree g v) 4) (λ v l. eq-eqb (degree g v) 4 (a .degrees v l))
 
     passed : networkRefusal g ≡ 0
     passed = sym (not-refused g four (every-cut-complete 4 g (λ e. true) (every-cut 4 (λ e. true) formed (a .cuts))))
@@ -114,19 +124,24 @@ refusal-same : (r : ℕ) (g : Network) → networkRefusal (reserving r g) ≡ ne
 unfolding networkRefusal fourEach degree endsAt everyCutOf crossedBy crossingsOf crosses
 refusal-same r g = refl
 
-state-same : (m : Meaning) (r : ℕ) → networkOf (meaning (m .vertices) r (m .low) (m .high) (m .cost)) ≡ reserving r (networkOf m)
+state-same : (m : Meaning) (r : ℕ)
+    → networkOf (meaning (m .vertices) r (m .low) (m .high) (m .cost)) ≡ reserving r (networkOf m)
 unfolding networkOf stateOf
 state-same m r = refl
 
-accepted-any : (t : List ℕ) (g : Network) → acceptNetwork t ≡ answer g → (r : ℕ) → r < g .edges → (s : List ℕ) × Accepted s (reserving r g)
+accepted-any : (t : List ℕ) (g : Network) → acceptNetwork t ≡ answer g → (r : ℕ) → r < g .edges
+    → (s : List ℕ) × Accepted s (reserving r g)
 accepted-any t g e r h =
     let w = accepted-whole t g e in
     let m = w .meaning in
     let few : r < 2 * m .vertices = unfold networkOf stateOf in omega (arith, h, ap (λ g. g .edges) (w .state-is)) in
     let s = any-reserved t m r (w .read) few in
     let other = meaning (m .vertices) r (m .low) (m .high) (m .cost) in
-    let same : networkOf other ≡ reserving r g = state-same m r ∙ ap (reserving r) (w .state-is) in
-    (s .0, is-accepted (s .0) (reserving r g) (whole-accepted (s .0) other (s .1) (ap networkRefusal same ∙ refusal-same r g ∙ w .passed) ∙ ap answer same))
+    let same : networkOf other ≡ reserving r g = state-same m r ∙ ap (reserving r) (w .state-is) in (
+      s .0,
+      is-accepted (s .0) (reserving r g)
+          (whole-accepted (s .0) other (s .1) (ap networkRefusal same ∙ refusal-same r g ∙ w .passed) ∙ ap answer same),
+    )
 
 -- ── chains ──
 module _ {t : List ℕ} {g : Network} (a : Accepted t g) where
@@ -134,24 +149,36 @@ module _ {t : List ℕ} {g : Network} (a : Accepted t g) where
   running = accepted-running t g (accepts a)
 
   -- the bytes of a check that answers keep the rules, and its text is that of what going back gives
-  answers-ruled : (chain text : List ℕ) → checkChainText t chain ≡ answer text → (K : List Bool) × Ruled g chain K × (text ≡ keptOf g K)
+  answers-ruled : (chain text : List ℕ) → checkChainText t chain ≡ answer text
+      → (K : List Bool) × Ruled g chain K × (text ≡ keptTextOf g K)
   unfolding checkChainText andThen keptIn
   answers-ruled chain text h = go (checkChain (g .remaining - 2) g chain) refl (rw (accepts a) at h)
     where
-      go : (w : Verdict) → checkChain (g .remaining - 2) g chain ≡ w → keptIn g w ≡ answer text → (K : List Bool) × Ruled g chain K × (text ≡ keptOf g K)
-      go (refused k) q h = let z : _≡_ {A = ℕ} 0 1 = cc in absurd (omega arith)
-      go (keeps K) q h =
+      go : (w : Answer (List Bool)) → checkChain (g .remaining - 2) g chain ≡ w → keptIn g w ≡ answer text
+          → (K : List Bool) × Ruled g chain K × (text ≡ keptTextOf g K)
+      go (refused k) q h = no-answer (cc)
+      go (answer K) q h =
           let m = bytes-meant (g .remaining - 2) g chain K (omega (arith, running .left)) q in
-          let r = passes-ruled (m .steps) (running .sound) (m .dropped) K (m .passes) in
-          (K, record { steps = m .steps; dropped = m .dropped; text-is = m .text-is; by-rules = r; back = check-back (running .sound) r (m .passes) }, cc)
+          let r = passes-ruled (m .steps) (running .sound) (m .dropped) K (m .passes) in (
+            K,
+            record {
+              steps = m .steps;
+              dropped = m .dropped;
+              text-is = m .text-is;
+              by-rules = r;
+              back =
+                  check-back (running .sound) r (m .passes);
+            },
+            cc,
+          )
 
   -- the check of bytes that keep the rules keeps what going back gives
-  ruled-keeps : {chain : List ℕ} {K : List Bool} → Ruled g chain K → checkChain (g .remaining - 2) g chain ≡ keeps K
+  ruled-keeps : {chain : List ℕ} {K : List Bool} → Ruled g chain K → checkChain (g .remaining - 2) g chain ≡ answer K
   ruled-keeps {chain} {K} r =
       ap (checkChain (g .remaining - 2) g) (r .text-is)
       ∙ meaning-passes (r .steps) (r .dropped) running K (back-check (running .sound) (r .by-rules) (r .back))
 
-  ruled-answers : {chain : List ℕ} {K : List Bool} → Ruled g chain K → checkChainText t chain ≡ answer (keptOf g K)
+  ruled-answers : {chain : List ℕ} {K : List Bool} → Ruled g chain K → checkChainText t chain ≡ answer (keptTextOf g K)
   unfolding keptIn
   ruled-answers {chain} {K} r = chain-kept t chain g (accepts a) K (ruled-keeps r)
 
@@ -180,24 +207,27 @@ module _ {t : List ℕ} {g : Network} (a : Accepted t g) where
       go (answer text) q = let r = answers-ruled chain text q in (r .0, r .1)
       go (refusedBy k) q =
           let e = refuses (checkChainText t chain) lent k q .0 in
-          ⊎-elim (λ d. let x = d .1 in let z : _≡_ {A = ℕ} 0 1 = cc in absurd (omega arith))
+          ⊎-elim (λ d. let x = d .1 in no-answer (cc))
           (λ s. let z : k ≡ SHORT = cc in absurd (never-short chain (q ∙ ap refusedBy z))) p
 
   ruled-text-passes : (chain lent : List ℕ) → (K : List Bool) × Ruled g chain K → Passes (chainReply t chain lent)
   ruled-text-passes chain lent r =
-      let text = keptOf g (r .0) in
+      let text = keptTextOf g (r .0) in
       let q = ruled-answers (r .1) in
       elim (decLt (length lent) (length text)) [
         | yes l ↦ inr (sym (short (checkChainText t chain) lent text q l .0))
         | no l ↦ inl (length text, sym (fits (checkChainText t chain) lent text q (omega arith) .0))
       ]
 
-  short-ruled : (chain lent : List ℕ) → chainReply t chain lent ≡ Refused SHORT → (K : List Bool) × Ruled g chain K × (length lent < length (keptOf g K))
+  short-ruled : (chain lent : List ℕ) → chainReply t chain lent ≡ Refused SHORT
+      → (K : List Bool) × Ruled g chain K × (length lent < length (keptTextOf g K))
   short-ruled chain lent h =
       let r = passes-ruled-text chain lent (inr h) in
-      elim (decLt (length lent) (length (keptOf g (r .0)))) [
+      elim (decLt (length lent) (length (keptTextOf g (r .0)))) [
         | yes l ↦ (r .0, r .1, l)
-        | no l ↦ let e = fits (checkChainText t chain) lent (keptOf g (r .0)) (ruled-answers (r .1)) (omega arith) .0 in let z : _≡_ {A = ℕ} 0 1 = cc in absurd (omega arith)
+        | no l ↦ let e = fits (checkChainText t chain) lent (keptTextOf g (r .0)) (ruled-answers (r .1))
+            (omega arith) .0 in
+            no-answer (cc)
       ]
 
 -- ── plans ──
@@ -215,33 +245,42 @@ module _ {t : List ℕ} {g : Network} (a : Accepted t g) where
       let n = g .remaining - 2 in
       let run = running a in
       chain-kept t (planChain n g) g (accepts a) (planKept n g)
-      (meaning-passes (planSteps n g) (planDrop n g) run (planKept n g) (plan-checked n (run .sound) (omega (arith, run .left))))
+      (meaning-passes (planSteps n g) (planDrop n g) run (planKept n g)
+      (plan-checked n (run .sound) (omega (arith, run .left))))
 
   module _ (chain lent : List ℕ) where
-    too-short : (length chain < length (due .chain)) ⊎ (length lent < length (due .kept)) → planGiven t chain lent ≡ refusedBy SHORT
+    too-short : (length chain < length (due .chain)) ⊎ (length lent < length (due .kept))
+        → planGiven t chain lent ≡ refusedBy SHORT
     unfolding planGiven planRoom roomIn
     too-short s = given-short (planRoom chain lent) (planText t) due due-is (⊎-elim
         (λ l. rw (lt-leb (length (due .chain)) (length chain) l))
         (λ l. rw (lt-leb (length (due .kept)) (length lent) l) (and-false (roomIn chain (due .chain)))) s)
 
-    long-enough : length (due .chain) ≤ length chain → length (due .kept) ≤ length lent → planGiven t chain lent ≡ answer due
+    long-enough : length (due .chain) ≤ length chain → length (due .kept) ≤ length lent
+        → planGiven t chain lent ≡ answer due
     unfolding planGiven planRoom roomIn
-    long-enough c k = given-fits (planRoom chain lent) (planText t) due due-is (rw (le-leb (length (due .chain)) (length chain) c, le-leb (length (due .kept)) (length lent) k))
+    long-enough c k = given-fits (planRoom chain lent) (planText t) due due-is
+        (rw (le-leb (length (due .chain)) (length chain) c, le-leb (length (due .kept)) (length lent) k))
 
-    which : planReply t chain lent ≡ plan.Refused SHORT → (length chain < length (due .chain)) ⊎ (length lent < length (due .kept))
+    which : planReply t chain lent ≡ plan.Refused SHORT
+        → (length chain < length (due .chain)) ⊎ (length lent < length (due .kept))
     which h = elim (decLt (length chain) (length (due .chain))) [
       | yes l ↦ inl l
       | no c ↦ elim (decLt (length lent) (length (due .kept))) [
         | yes l ↦ inr l
-        | no k ↦ let e = handed-over (planGiven t chain lent) chain lent due (long-enough (omega arith) (omega arith)) .0 in let z : _≡_ {A = ℕ} 0 1 = cc in absurd (omega arith)
+        | no k ↦ let e = handed-over (planGiven t chain lent) chain lent due
+            (long-enough (omega arith) (omega arith)) .0 in no-answer (cc)
       ]
     ]
 
     plan-writes : PlanWrites t due chain lent
     plan-writes = record {
       short = (which, λ s. sym (handed-refused (planGiven t chain lent) chain lent SHORT (too-short s) .0));
-      untouched = λ h. let w = handed-refused (planGiven t chain lent) chain lent SHORT (too-short (which h)) .1 in (sym (w .0), sym (w .1));
-      written = λ c k. let w = handed-over (planGiven t chain lent) chain lent due (long-enough c k) in (sym (w .0), sym (w .1 .0), sym (w .1 .1));
+      untouched = λ h. let w =
+          handed-refused (planGiven t chain lent) chain lent SHORT (too-short (which h)) .1 in (sym (w .0), sym (w .1));
+      written = λ c k. let w =
+          handed-over (planGiven t chain lent) chain lent due (long-enough c k) in
+          (sym (w .0), sym (w .1 .0), sym (w .1 .1));
     }
 
 -- ── the claim ──
@@ -252,12 +291,13 @@ untouched t chain lent k h = go (checkChainText t chain) refl
     go (refusedBy j) q = sym (refuses (checkChainText t chain) lent j q .1)
     go (answer text) q = elim (decLt (length lent) (length text)) [
       | yes l ↦ sym (short (checkChainText t chain) lent text q l .1)
-      | no l ↦ let e = fits (checkChainText t chain) lent text q (omega arith) .0 in let z : _≡_ {A = ℕ} 0 1 = cc in absurd (omega arith)
+      | no l ↦ let e = fits (checkChainText t chain) lent text q (omega arith) .0 in no-answer (cc)
     ]
 
 -- the kept text of marked edges, in full
-text-of : (g : Network) (K : List Bool) → keptOf g K ≡ keptText (keptEdges (g .edges) K) (keptCost g K) (allButReserved g)
-unfolding keptOf
+text-of : (g : Network) (K : List Bool)
+    → keptTextOf g K ≡ keptText (keptEdges (g .edges) K) (keptCost g K) (allButReserved g)
+unfolding keptTextOf
 text-of g K = refl
 
 pub claim : Claim
@@ -271,11 +311,16 @@ claim = record {
   );
   one = λ a r s. one-set a r s;
   owed = λ a r. ruled-owed a r;
-  short = λ {t} a chain lent. (short-ruled a chain lent, λ r. sym (short (checkChainText t chain) lent _ (ruled-answers a (r .1)) (r .2) .0));
-  written = λ {t} {g} a {chain} {K} r lent l. let w = fits (checkChainText t chain) lent (keptOf g K) (ruled-answers a r) l in (sym (w .0), sym (w .1));
+  short = λ {t} a chain lent.
+      (short-ruled a chain lent, λ r. sym (short (checkChainText t chain) lent _ (ruled-answers a (r .1)) (r .2) .0));
+  written = λ {t} {g} a {chain} {K} r lent l. let w =
+      fits (checkChainText t chain) lent (keptTextOf g K) (ruled-answers a r) l in (sym (w .0), sym (w .1));
   untouched = untouched;
   planned = λ a. (due a, due-passes a, plan-writes a);
-  network-first = λ t k e chain lent. (sym (refuses (checkChainText t chain) lent k (chain-network-refused t chain k e) .0), sym (handed-refused (planGiven t chain lent) chain lent k (plan-refused t chain lent k e) .0));
+  network-first = λ t k e chain lent. (
+    sym (refuses (checkChainText t chain) lent k (chain-network-refused t chain k e) .0),
+    sym (handed-refused (planGiven t chain lent) chain lent k (plan-refused t chain lent k e) .0),
+  );
   network-refusals = λ t k e. let w = accept-numbered t .number k e in (omega (arith, w .0), w .1);
   chain-refusals = λ {t} {g} a chain k e. chain-meets t chain g k (accepts a) e;
 }

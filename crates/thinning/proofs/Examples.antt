@@ -4,34 +4,38 @@ use mathlib.Core.Bool.{Bool, true, false, _&&_}
 use mathlib.Core.List.{List, [], _∷_, map}
 use Prim.Native.Nat.{ℕ}
 use lib.Dec.{eqb}
-use Rattle.frame.specs.Answer.{Answer, refused, answer, andThen, over}
+use Rattle.base.specs.Answer.{Answer, refused, answer, andThen, over, unless}
 use Rattle.frame.specs.Table.{lineLength, startOf, placeOf, total, widths, bytesOf, padded, digitsOf, kindOf}
 use Rattle.frame.specs.Digits.{digitOf, spell, valueOf, numberOf, allDigits}
 use Rattle.frame.specs.Line.{isLine, fieldsOf, valuesOf, spellAll, lineOf}
 use Rattle.frame.specs.Frames.{framesOf, linesOf}
 use Rattle.frame.specs.Kinds.{costDigits, keptDigits, unreservedDigits}
 use Rattle.frame.specs.Sign.{signedOf, unsignedOf}
-use Rattle.texts.specs.Limits.{verticesOk, costOk, unless}
-use Rattle.texts.specs.Networks.{meant, headRefusal, edgeRefusal, checked, meaningOf, inFrames, edgesOf, readNetwork, edgesIn, edgesText, networkText, textOf}
-use Rattle.texts.specs.Chains.{chainText}
-use Rattle.texts.specs.Lists.{listText}
-use Rattle.texts.specs.Kept.{pick as keptPick, keptEdges, keptText}
+use Rattle.base.specs.Limits.{verticesOk, costOk}
+use Rattle.network_text.specs.Text.{meant, headRefusal, edgeRefusal, checked, meaningOf, inFrames, edgesOf, readNetwork}
+use Rattle.network_text.specs.Text.{edgesIn, edgesText, networkText, textOf}
+use Rattle.chain_text.specs.Text.{chainText}
+use Rattle.list_text.specs.Text.{listText}
+use Rattle.base.specs.Fold.{fold, pick, only, among, tabulate}
+use Rattle.list_text.specs.Kept.{keptEdges, keptText}
 use Rattle.loading.specs.Loading.{stateOf, networkOf, loadNetwork}
-use Rattle.graph.specs.Fold.{fold, pick, only, among, tabulate}
 use Rattle.graph.specs.Network.{endsAt, degree, touches, far, costOver, kept}
-use Rattle.graph.specs.Cut.{differ, crosses, crossingsOf, everySide, somewhere, crossedBy, everyCutOf, fourEach, networkRefusal}
+use Rattle.graph.specs.Cut.{differ, crosses, crossingsOf, everySide, somewhere, crossedBy, everyCutOf, fourEach}
+use Rattle.graph.specs.Cut.{networkRefusal}
 use Rattle.graph.specs.Split.{isPartner, partners, split, splitWith, admissible, third, after}
-use Rattle.graph.specs.Chain.{stepRefusal, lastEdges, dearest, endRefusal, marks, endKept, lift, liftVerdict, unless as unlessVerdict}
-use Rattle.graph.specs.Plan.{chosenVertex, ordered, chosenStep, dearestOf, chosenDrop, planSteps, planDrop, planKept}
+use Rattle.graph.specs.Chain.{stepRefusal, lastEdges, dearest, endRefusal, marks, endKept, lift, lifted}
+use Rattle.graph.specs.Plan.{chosenVertex, ordered, chosenPair, chosenStep, dearestOf, chosenDrop, planSteps, planDrop}
+use Rattle.graph.specs.Plan.{planKept}
 use Rattle.graph.specs.Districts.{District, T, Case, plans, breaks, refuses, table, every}
 use Rattle.graph.proofs.Examples.{sameNumbers, holds, every-both, examples as meanings}
 use Rattle.thinning.specs.Verdicts.{checkEnding, checkChain}
 use Rattle.thinning.specs.Plans.{planChain}
-use Rattle.thinning.specs.Services.{Texts, acceptNetwork, keptOf, keptIn, checkChainText, textsOf, planText}
+use Rattle.thinning.specs.Services.{Texts, acceptNetwork, keptTextOf, keptIn, checkChainText, textsOf, planText}
 
 -- the network text of a district
 textOfDistrict : District → List ℕ
-textOfDistrict d = textOf (meant (d .vertices) (d .reserved) (map (λ e. e .0) (d .ends)) (map (λ e. e .1) (d .ends)) (d .costs))
+textOfDistrict d = textOf
+    (meant (d .vertices) (d .reserved) (map (λ e. e .0) (d .ends)) (map (λ e. e .1) (d .ends)) (d .costs))
 
 chain : List (ℕ × ℕ × ℕ) → ℕ → List ℕ
 chain ts d = chainText (map (λ t. record { v = t .0; x = t .1; y = t .2 }) ts) d
@@ -57,7 +61,15 @@ holdsOfTexts (breaks t d k) = refusedBy k (checkChainText (textOfDistrict T) (ch
 holdsOfTexts (refuses p k) = refusedBy k (acceptNetwork (textOfDistrict p))
 
 in-texts : every holdsOfTexts table ≡ true
-unfolding textOfDistrict chain sameNumbers answers writes refusedBy holdsOfTexts every andThen over lineLength startOf placeOf total widths bytesOf padded digitsOf kindOf digitOf spell valueOf numberOf allDigits isLine fieldsOf valuesOf spellAll lineOf framesOf linesOf costDigits keptDigits unreservedDigits signedOf unsignedOf verticesOk costOk unless headRefusal edgeRefusal checked meaningOf inFrames edgesOf readNetwork edgesIn edgesText networkText textOf chainText listText keptPick keptEdges keptText stateOf networkOf loadNetwork fold pick only among tabulate endsAt degree touches far costOver differ crosses crossingsOf everySide somewhere crossedBy everyCutOf fourEach networkRefusal isPartner partners split splitWith admissible third after stepRefusal lastEdges dearest endRefusal marks endKept lift liftVerdict unlessVerdict chosenVertex ordered chosenStep dearestOf chosenDrop planSteps planDrop planKept checkEnding checkChain planChain acceptNetwork keptOf keptIn checkChainText textsOf planText
+unfolding textOfDistrict chain sameNumbers answers writes refusedBy holdsOfTexts every andThen over lineLength startOf
+    placeOf total widths bytesOf padded digitsOf kindOf digitOf spell valueOf numberOf allDigits isLine fieldsOf
+    valuesOf spellAll lineOf framesOf linesOf costDigits keptDigits unreservedDigits signedOf unsignedOf verticesOk
+    costOk unless headRefusal edgeRefusal checked meaningOf inFrames edgesOf readNetwork edgesIn edgesText networkText
+    textOf chainText listText keptEdges keptText stateOf networkOf loadNetwork fold pick only among tabulate endsAt
+    degree touches far costOver differ crosses crossingsOf everySide somewhere crossedBy everyCutOf fourEach
+    networkRefusal isPartner partners split splitWith admissible third after stepRefusal lastEdges dearest endRefusal
+    marks endKept lift lifted chosenVertex ordered chosenPair chosenStep dearestOf chosenDrop planSteps planDrop
+    planKept checkEnding checkChain planChain acceptNetwork keptTextOf keptIn checkChainText textsOf planText
 in-texts = refl
 
 -- each row of the table, over meanings and over texts

@@ -8,24 +8,30 @@ use lib.ListN.{length}
 use lib.IntN.{ℤ, natAbs}
 use mir.Syntax.{w64}
 use mir.Val.{toZ, ofZ}
-use Rattle.texts.specs.Kept.{keptEdges, keptText, keptLength}
-use Rattle.texts.proofs.KeptTexts.{length-kept}
+use Rattle.list_text.specs.Kept.{keptEdges, keptText, keptLength}
+use Rattle.list_text.proofs.KeptTexts.{length-kept}
 use Rattle.graph.specs.Network.{keptCost, allButReserved}
 use Rattle.graph.specs.declared.Network.{Network}
-use Rattle.thinning.specs.Running.{Keeping}
-use Rattle.thinning.specs.Services.{keptOf}
-use Rattle.thinning.proofs.Totals.{read-back, kept-small, reserved-small}
+use Rattle.rules.specs.Running.{Keeping}
+use Rattle.thinning.specs.Services.{keptTextOf}
+use Rattle.base.proofs.Integers.{read-back}
+use Rattle.rules.proofs.Totals.{kept-small, reserved-small}
+
+-- how long the text is
+pub kept-length-is : (g : Network) (K : List Bool)
+    → length (keptTextOf g K) ≡ keptLength (length (keptEdges (g .edges) K))
+unfolding keptTextOf
+kept-length-is g K = length-kept (keptEdges (g .edges) K) (keptCost g K) (allButReserved g)
 
 module _ {g : Network} {K : List Bool} (k : Keeping g K) where
-  -- how long the text is
-  pub kept-size : (n : ℕ) → n ≡ keptLength (length (keptEdges (g .edges) K)) → n ≡ length (keptOf g K)
-  unfolding keptOf
-  kept-size n e = e ∙ sym (length-kept (keptEdges (g .edges) K) (keptCost g K) (allButReserved g))
+  pub kept-size : (n : ℕ) → n ≡ keptLength (length (keptEdges (g .edges) K)) → n ≡ length (keptTextOf g K)
+  kept-size n e = e ∙ sym (kept-length-is g K)
 
   -- the text with the costs as the code hands them over
   module _ (kept unreserved : ℤ) (ek : kept ≡ keptCost g K) (eu : unreserved ≡ allButReserved g) where
-    pub kept-text : keptText (keptEdges (g .edges) K) (toZ w64 (ofZ w64 kept)) (toZ w64 (ofZ w64 unreserved)) ≡ keptOf g K
-    unfolding keptOf
+    pub kept-text : keptText (keptEdges (g .edges) K) (toZ w64 (ofZ w64 kept)) (toZ w64 (ofZ w64 unreserved))
+        ≡ keptTextOf g K
+    unfolding keptTextOf
     kept-text =
         ap₂ (keptText (keptEdges (g .edges) K))
         (read-back kept (omega (arith, ap natAbs ek, kept-small g (k .light) K)) ∙ ek)

@@ -1,10 +1,4 @@
-pub mod Trios
-pub mod Choices
-pub mod Judging
-pub mod Ends
 pub mod Chains
-pub mod Planning
-pub mod Totals
 pub mod ChainTexts
 pub mod Accepting
 pub mod Keepings

@@ -1,25 +1,26 @@
 -- The longest texts: what the first bytes of a network text settle, and buffers that have room for every plan.
 use mathlib.Core.Path.{_≡_, refl, _∙_, ap₂}
-use mathlib.Core.Bool.{true, _&&_}
+use mathlib.Core.Bool.{Bool, true, _&&_}
 use mathlib.Core.List.{List}
 use Prim.Native.Nat.{ℕ, _-_, _≤_, _<_}
 use native.Mathlib.Omega.{arith}
 use lib.ListN.{length, take}
 use borrow.Author.Tests.{le-leb}
-use Rattle.frame.specs.Answer.{Answer, refused, answer, andThen, roomIn}
-use Rattle.frame.specs.Table.{padded, bytesOf, placeOf, startOf, total, lineLength}
-use Rattle.frame.proofs.Answers.{given-refused, given-fits}
-use Rattle.texts.specs.Networks.{longestNetwork}
-use Rattle.texts.specs.Kept.{isKept, keptEdges, keptLength, longestKept}
-use Rattle.texts.proofs.NetworksLongest.{first-bytes}
-use Rattle.texts.proofs.KeptTexts.{few-picked, bytes-of-kept}
+use Rattle.base.proofs.Bools.{no-answer}
+use Rattle.base.specs.Answer.{Answer, refused, answer, andThen, roomIn}
+use Rattle.base.proofs.Answers.{given-refused, given-fits}
+use Rattle.base.specs.Lengths.{longestNetwork, longestKept, longestChain}
+use Rattle.list_text.specs.Kept.{keptEdges}
+use Rattle.network_text.proofs.Longest.{first-bytes}
+use Rattle.chain_text.proofs.Lengths.{chain-short as chain-within}
+use Rattle.list_text.proofs.KeptTexts.{few-kept, kept-short as kept-within}
 use Rattle.loading.specs.Loading.{loadNetwork}
-use Rattle.graph.specs.Network.{keptCost, allButReserved}
 use Rattle.graph.specs.Plan.{planKept}
 use Rattle.graph.specs.declared.Network.{Network}
-use Rattle.thinning.specs.Plans.{planChain, chainLength, longestChain}
-use Rattle.thinning.specs.Services.{Texts, acceptNetwork, keptOf, textsOf, planText, planRoom, planGiven}
+use Rattle.thinning.specs.Plans.{planChain}
+use Rattle.thinning.specs.Services.{Texts, acceptNetwork, keptTextOf, textsOf, planText, planRoom, planGiven}
 use Rattle.thinning.proofs.Accepting.{accepted-running, remaining-few}
+use Rattle.thinning.proofs.Keepings.{kept-length-is}
 use Rattle.thinning.proofs.Handing.{chain-size}
 
 -- a longer text is loaded, accepted and planned as its first bytes are, one more than the longest network text has
@@ -36,36 +37,37 @@ module _ (t : List ℕ) (k : ℕ) (h : longestNetwork < k) where
   unfolding planText
   plan-first = rw accept-first
 
--- how many bytes the longest texts have
-pub bytes-of-longest-plan : (longestChain ≡ 3817) × (longestKept ≡ 3619)
-unfolding longestChain chainLength longestKept keptLength lineLength startOf placeOf total bytesOf padded
-bytes-of-longest-plan = (refl, refl)
-
 -- the texts of a plan are no longer than these
 module _ (network : List ℕ) where
-  pub plan-lengths : (t : Texts) → planText network ≡ answer t → (length (t .chain) ≤ longestChain) × (length (t .kept) ≤ longestKept)
+  pub plan-lengths : (t : Texts) → planText network ≡ answer t
+      → (length (t .chain) ≤ longestChain) × (length (t .kept) ≤ longestKept)
   unfolding planText andThen
   plan-lengths t e = go (acceptNetwork network) refl e
     where
-      chain-short : (g : Network) → acceptNetwork network ≡ answer g → length (planChain (g .remaining - 2) g) ≤ longestChain
+      chain-short : (g : Network) → acceptNetwork network ≡ answer g
+          → length (planChain (g .remaining - 2) g) ≤ longestChain
       chain-short g p =
-          unfold chainLength lineLength startOf placeOf total bytesOf padded in
-          omega (arith, bytes-of-longest-plan .0, chain-size (g .remaining - 2) g, remaining-few network g p)
+          let size = chain-size (g .remaining - 2) g in
+          omega (arith, size, chain-within (g .remaining - 2) (omega (arith, remaining-few network g p)))
 
-      kept-short : (g : Network) → acceptNetwork network ≡ answer g → (K : List _) → length (keptOf g K) ≤ longestKept
+      kept-short : (g : Network) → acceptNetwork network ≡ answer g → (K : List Bool)
+          → length (keptTextOf g K) ≤ longestKept
       kept-short g p K =
-          unfold keptOf keptEdges in
-          omega (arith, bytes-of-longest-plan .1, bytes-of-kept (keptEdges (g .edges) K) (keptCost g K) (allButReserved g), few-picked (isKept K) (g .edges) 0, accepted-running network g p .edge-room)
+          let few = few-kept (g .edges) K in
+          let room = accepted-running network g p .edge-room in
+          omega (arith, kept-length-is g K, kept-within (length (keptEdges (g .edges) K)) (omega arith))
 
-      go : (a : Answer Network) → acceptNetwork network ≡ a → andThen a (λ g. answer (textsOf g (planKept (g .remaining - 2) g))) ≡ answer t
+      go : (a : Answer Network) → acceptNetwork network ≡ a
+          → andThen a (λ g. answer (textsOf g (planKept (g .remaining - 2) g))) ≡ answer t
           → (length (t .chain) ≤ longestChain) × (length (t .kept) ≤ longestKept)
-      go (refused k) p q = let z : _≡_ {A = ℕ} 0 1 = cc in absurd (omega arith)
+      go (refused k) p q = no-answer (cc)
       go (answer g) p q =
           let s : textsOf g (planKept (g .remaining - 2) g) ≡ t = cc in
           rw (← s) (unfold textsOf in (chain-short g p, kept-short g p (planKept (g .remaining - 2) g)))
 
   -- so no buffers that have room for these are short
-  pub every-plan-fits : (chain kept : List ℕ) → longestChain ≤ length chain → longestKept ≤ length kept → planGiven network chain kept ≡ planText network
+  pub every-plan-fits : (chain kept : List ℕ) → longestChain ≤ length chain → longestKept ≤ length kept
+      → planGiven network chain kept ≡ planText network
   unfolding planGiven
   every-plan-fits chain kept c k = go (planText network) refl
     where
@@ -73,7 +75,8 @@ module _ (network : List ℕ) where
       room t e =
           let l = plan-lengths t e in
           unfold planRoom roomIn in
-          ap₂ _&&_ (le-leb (length (t .chain)) (length chain) (omega (arith, l .0))) (le-leb (length (t .kept)) (length kept) (omega (arith, l .1)))
+          ap₂ _&&_ (le-leb (length (t .chain)) (length chain) (omega (arith, l .0)))
+          (le-leb (length (t .kept)) (length kept) (omega (arith, l .1)))
 
       go : (a : Answer Texts) → planText network ≡ a → planGiven network chain kept ≡ planText network
       go (refused j) e = given-refused (planRoom chain kept) (planText network) j e ∙ rw e

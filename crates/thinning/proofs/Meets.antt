@@ -3,15 +3,16 @@ use mathlib.Core.Path.{_≡_, refl}
 use mathlib.Core.Logic.{_⊎_, inl, inr, ⊎-elim}
 use mathlib.Core.Bool.{Bool, true, false, cond}
 use mathlib.Core.List.{List}
-use Prim.Native.Nat.{ℕ, zero, suc, _-_, _≤_}
+use Prim.Native.Nat.{ℕ, zero, suc, _-_, _≤_, _<_}
 use native.Mathlib.Omega.{arith}
 use lib.Dec.{leb}
 use lib.ListN.{length, drop}
-use Rattle.frame.specs.Answer.{refused as refusedBy, answer, andThen}
+use Rattle.base.proofs.Bools.{no-answer}
+use Rattle.base.specs.Answer.{refused as refusedBy, answer, andThen, Answer, refused, unless}
 use Rattle.frame.specs.Table.{STEP, DROPPED, lineLength}
 use Rattle.frame.specs.Line.{isLine}
-use Rattle.graph.specs.Split.{after}
-use Rattle.graph.specs.Chain.{stepRefusal, endRefusal, endKept, Verdict, refused, keeps, liftVerdict, unless}
+use Rattle.graph.specs.Split.{third, after}
+use Rattle.graph.specs.Chain.{stepRefusal, endRefusal, endKept, lifted}
 use Rattle.graph.specs.declared.Network.{Network}
 use Rattle.graph.specs.declared.Step.{Step}
 use Rattle.graph.proofs.Numbers.{step-number, ending-number}
@@ -29,27 +30,31 @@ ending-of-chain : (g : Network) (d : ℕ) → (endRefusal g d ≡ 0) ⊎ OfChain
 ending-of-chain g d = ⊎-elim inl (λ e. inr (inr (omega arith, omega arith))) (ending-number g d)
 
 -- a refusal's number first, and then what follows
-first-refused : (j k : ℕ) (next : Verdict) → (j ≡ 0) ⊎ OfChain j → (next ≡ refused k → OfChain k) → unless j next ≡ refused k → OfChain k
+first-refused : (j k : ℕ) (next : Answer (List Bool)) → (j ≡ 0) ⊎ OfChain j → (next ≡ refused k → OfChain k)
+    → unless j next ≡ refused k → OfChain k
 unfolding unless
 first-refused zero k next n h e = h e
 first-refused (suc j) k next n h e = let q : k ≡ suc j = cc in rw q (⊎-elim (λ z. absurd (omega arith)) (λ o. o) n)
 
 -- a test first, and its refusal
-tested : (b : Bool) (j k : ℕ) (next : Verdict) → OfChain j → (next ≡ refused k → OfChain k) → cond b next (refused j) ≡ refused k → OfChain k
+tested : (b : Bool) (j k : ℕ) (next : Answer (List Bool)) → OfChain j → (next ≡ refused k → OfChain k)
+    → cond b next (refused j) ≡ refused k → OfChain k
 tested true j k next o h e = h e
 tested false j k next o h e = let q : k ≡ j = cc in rw q o
 
-lift-refused : (g : Network) (t : Step) (w : Verdict) (k : ℕ) → liftVerdict g t w ≡ refused k → w ≡ refused k
-unfolding liftVerdict
+lift-refused : (g : Network) (t : Step) (w : Answer (List Bool)) (k : ℕ)
+    → lifted (t .x) (t .y) (third g t) w ≡ refused k → w ≡ refused k
+unfolding lifted
 lift-refused g t (refused j) k e = e
-lift-refused g t (keeps K) k e = let z : _≡_ {A = ℕ} 0 1 = cc in absurd (omega arith)
+lift-refused g t (answer K) k e = no-answer (cc)
 
 ending-refused : (g : Network) (t : List ℕ) (k : ℕ) → checkEnding g t ≡ refused k → OfChain k
 unfolding checkEnding
 ending-refused g t k e =
     tested (isLine DROPPED t) 1 k _ (inl refl)
     (first-refused (endRefusal g (droppedIn t)) k _ (ending-of-chain g (droppedIn t))
-    (tested (leb (length t) (lineLength DROPPED)) leftOver k (keeps (endKept g (droppedIn t))) (inl refl) (λ q. let z : _≡_ {A = ℕ} 0 1 = cc in absurd (omega arith))))
+    (tested (leb (length t) (lineLength DROPPED)) leftOver k (answer (endKept g (droppedIn t))) (inl refl)
+    (λ q. no-answer (cc))))
     e
 
 chain-refused : (n : ℕ) (g : Network) (t : List ℕ) (k : ℕ) → checkChain n g t ≡ refused k → OfChain k
@@ -59,14 +64,19 @@ chain-refused (suc n) g t k e =
     let s = stepIn t in
     let later = checkChain n (after g s) (drop (lineLength STEP) t) in
     tested (isLine STEP t) 1 k _ (inl refl)
-    (first-refused (stepRefusal g s) k (liftVerdict g s later) (step-of-chain g s)
+    (first-refused (stepRefusal g s) k (lifted (s .x) (s .y) (third g s) later) (step-of-chain g s)
     (λ q. chain-refused n (after g s) (drop (lineLength STEP) t) k (lift-refused g s later k q)))
     e
 
-pub chain-meets : (t chain : List ℕ) (g : Network) (k : ℕ) → acceptNetwork t ≡ answer g → checkChainText t chain ≡ refusedBy k → OfChain k
+-- so every refusal has a number
+pub chain-numbered : (n : ℕ) (g : Network) (t : List ℕ) (k : ℕ) → checkChain n g t ≡ refused k → 0 < k
+chain-numbered n g t k e = ⊎-elim (λ q. omega arith) (λ w. omega arith) (chain-refused n g t k e)
+
+pub chain-meets : (t chain : List ℕ) (g : Network) (k : ℕ) → acceptNetwork t ≡ answer g
+    → checkChainText t chain ≡ refusedBy k → OfChain k
 unfolding checkChainText andThen keptIn
 chain-meets t chain g k a e = go (checkChain (g .remaining - 2) g chain) refl (rw a at e)
   where
-    go : (w : Verdict) → checkChain (g .remaining - 2) g chain ≡ w → keptIn g w ≡ refusedBy k → OfChain k
+    go : (w : Answer (List Bool)) → checkChain (g .remaining - 2) g chain ≡ w → keptIn g w ≡ refusedBy k → OfChain k
     go (refused j) q e = let z : j ≡ k = cc in rw (← z) (chain-refused (g .remaining - 2) g chain j q)
-    go (keeps K) q e = let z : _≡_ {A = ℕ} 0 1 = cc in absurd (omega arith)
+    go (answer K) q e = no-answer (cc)

@@ -1,8 +1,3 @@
-pub mod Running
-pub mod Moves
-pub mod Others
-pub mod Judgements
-pub mod Endings
 pub mod Verdicts
 pub mod Plans
 pub mod Services

@@ -1,10 +1,8 @@
 -- The chain text of a plan.
 use mathlib.Core.List.{List, map}
-use Prim.Native.Nat.{ℕ, _+_, _-_, _*_}
-use Rattle.frame.specs.Table.{STEP, DROPPED, lineLength}
+use Prim.Native.Nat.{ℕ}
 use Rattle.frame.specs.declared.kinds.Step as kinds
-use Rattle.texts.specs.Limits.{mostVertices}
-use Rattle.texts.specs.Chains.{chainText}
+use Rattle.chain_text.specs.Text.{chainText}
 use Rattle.graph.specs.Plan.{planSteps, planDrop}
 use Rattle.graph.specs.declared.Network.{Network}
 use Rattle.graph.specs.declared.Step.{Step}
@@ -16,11 +14,3 @@ inFrame t = record { v = t .v; x = t .x; y = t .y }
 -- the chain text of n steps of the plan and its ending
 unfoldable pub planChain : ℕ → Network → List ℕ
 planChain n g = chainText (map inFrame (planSteps n g)) (planDrop n g)
-
--- how many bytes a chain text with n steps has
-unfoldable pub chainLength : ℕ → ℕ
-chainLength n = n * lineLength STEP + lineLength DROPPED
-
--- how many bytes the longest chain text has
-unfoldable pub longestChain : ℕ
-longestChain = chainLength (mostVertices - 2)

@@ -4,24 +4,25 @@ use mathlib.Core.List.{List}
 use mathlib.Core.Path.{_≡_}
 use Prim.Native.Nat.{ℕ, _-_, _≤_}
 use lib.ListN.{length, take}
-use Rattle.frame.specs.Answer.{Answer, refused, answer, andThen, given, filled, roomIn, replyOf, after}
-use Rattle.frame.specs.declared.reply.Reply.{Reply}
-use Rattle.texts.specs.Limits.{unless}
-use Rattle.texts.specs.Kept.{keptEdges, keptText}
+use Rattle.base.specs.Answer.{Answer, refused, answer, andThen, given, filled, roomIn, replyOf, after, unless}
+use Rattle.base.specs.declared.reply.Reply.{Reply}
+use Rattle.chain_text.specs.Text.{chainText, stepsOf}
+use Rattle.list_text.specs.Kept.{keptEdges, keptText}
 use Rattle.loading.specs.Loading.{loadNetwork}
 use Rattle.graph.specs.Network.{keptCost, allButReserved}
 use Rattle.graph.specs.Cut.{networkRefusal}
-use Rattle.graph.specs.Chain.{Verdict, refused as refusedWith, keeps}
 use Rattle.graph.specs.Plan.{planKept}
-use Rattle.graph.specs.State.{vertexLimit}
+use Rattle.base.specs.Limits.{vertexLimit}
 use Rattle.graph.specs.declared.Network.{Network}
 use Rattle.thinning.specs.declared.network.Acceptance.{Acceptance}
 use Rattle.thinning.specs.declared.network.Acceptance.the-variants.{Accepted, Refused}
 use Rattle.thinning.specs.declared.planner.Planned.{Planned}
 use Rattle.thinning.specs.declared.planner.Planned.the-variants as planned
 use Rattle.thinning.specs.Verdicts.{checkChain}
-use Rattle.thinning.specs.Plans.{planChain, chainLength}
-use Rattle.thinning.specs.Running.{Keeping}
+use Rattle.thinning.specs.Plans.{planChain}
+use Rattle.rules.specs.declared.planner.Plan.{Plan}
+use Rattle.rules.specs.Running.{Keeping}
+use Rattle.rules.specs.Plans.{StepRoom}
 
 -- ── check a network ──
 
@@ -35,13 +36,14 @@ acceptanceOf (answer g) = Accepted
 
 -- ── check a chain ──
 
--- the kept text of marked edges: the edges, their cost, and that of all edges but the reserved one, at the network's own costs
-unfoldable pub keptOf : Network → List Bool → List ℕ
-keptOf g K = keptText (keptEdges (g .edges) K) (keptCost g K) (allButReserved g)
+-- the kept text of marked edges: the edges, their cost, and that of
+-- all edges but the reserved one, at the network's own costs
+unfoldable pub keptTextOf : Network → List Bool → List ℕ
+keptTextOf g K = keptText (keptEdges (g .edges) K) (keptCost g K) (allButReserved g)
 
-unfoldable pub keptIn : Network → Verdict → Answer (List ℕ)
-keptIn g (refusedWith k) = refused k
-keptIn g (keeps K) = answer (keptOf g K)
+unfoldable pub keptIn : Network → Answer (List Bool) → Answer (List ℕ)
+keptIn g (refused k) = refused k
+keptIn g (answer K) = answer (keptTextOf g K)
 
 -- the kept text of a proposed chain, or the first refusal
 unfoldable pub checkChainText : List ℕ → List ℕ → Answer (List ℕ)
@@ -63,7 +65,7 @@ pub record Texts : Type 0 where
 
 -- the texts of marked edges, with the plan's chain
 unfoldable pub textsOf : Network → List Bool → Texts
-textsOf g K = record { chain = planChain (g .remaining - 2) g; kept = keptOf g K }
+textsOf g K = record { chain = planChain (g .remaining - 2) g; kept = keptTextOf g K }
 
 -- the plan of a network text, or the text's first refusal
 unfoldable pub planText : List ℕ → Answer Texts
@@ -94,10 +96,11 @@ plannedChain network chain kept = filled (λ t. t .chain) (planGiven network cha
 abbrev pub plannedKept : List ℕ → List ℕ → List ℕ → List ℕ
 plannedKept network chain kept = filled (λ t. t .kept) (planGiven network chain kept) kept
 
--- the chain of a plan stands at the start of a buffer, and its marks can be written
-pub record Planning (g : Network) (K : List Bool) (planned : List ℕ) : Type 0 where
-  pub keeping : Keeping g K
+-- a plan whose steps stand at the start of columns, and whose marks can be written
+pub record Planning (g : Network) (p : Plan) (v x y : List ℕ) : Type 0 where
+  pub keeping : Keeping g (p .kept .marks)
   pub several : 2 ≤ g .remaining
   pub vertex-room : g .remaining ≤ vertexLimit
-  pub chain-room : chainLength (g .remaining - 2) ≤ length planned
-  pub chain-is : take (chainLength (g .remaining - 2)) planned ≡ planChain (g .remaining - 2) g
+  pub column-room : StepRoom (g .remaining - 2) v x y
+  pub chain-is : let n = g .remaining - 2 in
+      chainText (stepsOf (take n v) (take n x) (take n y)) (p .dropped) ≡ planChain n g

@@ -9,8 +9,8 @@ ghost use Rattle.graph.specs.Cut.{networkRefusal};
 ghost use Rattle.loading.specs.Known.{Known};
 ghost use Rattle.loading.specs.Loading.{loadedOf};
 ghost use Rattle.thinning.specs.Services.{acceptNetwork, acceptanceOf};
-use super::refusals::CUT;
-use super::refusals::DEGREE;
+use base::CUT;
+use base::DEGREE;
 
 // What the network check answers.
 pub enum Acceptance {

@@ -1,19 +1,18 @@
 // The planner over texts.
-use super::checker::put_kept;
+use super::kept::put_kept;
 use super::network::accept;
-use super::refusals::SHORT;
-use super::steps::plan_into;
-use frame::DROPPED;
-use frame::STEP;
-use frame::length_of;
-use graph::Kept;
+use base::FEWEST_VERTICES;
+use base::SHORT;
+use base::STEP_LIMIT;
+use chain_text::chain_length;
+use chain_text::put_chain;
 use graph::Network;
-use texts::kept_length;
+use list_text::kept_length;
+use rules::Plan;
+use rules::plan_steps;
 ghost use mathlib.Core.Path.{_≡_};
 ghost use Prim.Native.Nat.{_-_, _≤_};
-ghost use Rattle.frame.specs.Answer.{filled};
-ghost use Rattle.graph.specs.State.{vertexLimit};
-ghost use Rattle.thinning.specs.Plans.{chainLength};
+ghost use Rattle.base.specs.Answer.{filled};
 ghost use Rattle.thinning.specs.Services.{plannedOf, textsGiven, planReply, plannedChain, plannedKept, Planning};
 
 // What planning answers: the lengths of the two texts, or a refusal.
@@ -22,33 +21,33 @@ pub enum Planned {
     Refused(u8),
 }
 
-// Room for the longest chain text.
-const CHAIN_ROOM: usize = 4096;
-
-// How many bytes a chain text has over so many vertices.
-fn chain_length(vertices: usize) -> usize
-    requires { ⌜ (2 ≤ vertices) × (vertices ≤ vertexLimit) ⌝ }
-    ensures { λ r. ⌜ r ≡ chainLength (vertices - 2) ⌝ }
-{
-    (vertices - 2) * length_of(STEP) + length_of(DROPPED)
-}
-
-// Hands the texts of a plan over, if both buffers have room: its chain stands at the start of `planned`.
+// Writes the texts of a plan whose steps stand in columns, if both buffers have room.
 fn hand_over(
     network: Network,
-    plan: Kept,
-    planned: &[u8],
+    plan: Plan,
+    v: &[u16],
+    x: &[u16],
+    y: &[u16],
     chain: &mut [u8],
     kept: &mut [u8],
 ) -> Planned
-    requires { ⌜ Planning network (plan .marks) (now planned) ⌝ }
-    ensures reply { λ r. ⌜ r ≡ plannedOf (textsGiven network (plan .marks) (now (chain .entry)) (now (kept .entry))) ⌝ }
-    ensures chain { λ r. ⌜ now (chain .exit) ≡ filled (λ t. t .chain) (textsGiven network (plan .marks) (now (chain .entry)) (now (kept .entry))) (now (chain .entry)) ⌝ }
-    ensures kept { λ r. ⌜ now (kept .exit) ≡ filled (λ t. t .kept) (textsGiven network (plan .marks) (now (chain .entry)) (now (kept .entry))) (now (kept .entry)) ⌝ }
+    requires { ⌜ Planning network plan (now v) (now x) (now y) ⌝ }
+    ensures reply { λ r. ⌜ r ≡
+        plannedOf (textsGiven network (plan .kept .marks) (now (chain .entry)) (now (kept .entry))) ⌝ }
+    ensures chain { λ r. ⌜ now (chain .exit) ≡
+        filled (λ t. t .chain) (textsGiven network (plan .kept .marks) (now (chain .entry)) (now (kept .entry)))
+        (now (chain .entry)) ⌝ }
+    ensures kept { λ r. ⌜ now (kept .exit) ≡
+        filled (λ t. t .kept) (textsGiven network (plan .kept .marks) (now (chain .entry)) (now (kept .entry)))
+        (now (kept .entry)) ⌝ }
 {
     let edges = network.edges;
-    let marks = plan.marks;
-    let chain_due = chain_length(network.remaining);
+    let dropped = plan.dropped;
+    let marked = plan.kept;
+    let marks = marked.marks;
+    let vertices = network.remaining;
+    let steps = vertices - FEWEST_VERTICES;
+    let chain_due = chain_length(steps);
     let kept_due = kept_length(&marks, edges);
     if chain.len() < chain_due {
         return Planned::Refused(SHORT);
@@ -56,19 +55,22 @@ fn hand_over(
     if kept.len() < kept_due {
         return Planned::Refused(SHORT);
     }
-    bytes::copy(&planned[..chain_due], chain);
-    put_kept(network, plan, kept);
+    put_chain(&v[..steps], &x[..steps], &y[..steps], dropped, chain);
+    put_kept(network, marked, kept);
     Planned::Written {
         chain: chain_due,
         kept: kept_due,
     }
 }
 
-// Plans a network text: writes the chain text and the kept text, or gives the network's refusal, or 13 and writes nothing.
+// Plans a network text: writes the chain text and the kept text, or
+// gives the network's refusal, or 13 and writes nothing.
 pub fn plan(network: &[u8], chain: &mut [u8], kept: &mut [u8]) -> Planned
     ensures reply { λ r. ⌜ r ≡ planReply (now (network .entry)) (now (chain .entry)) (now (kept .entry)) ⌝ }
-    ensures chain { λ r. ⌜ now (chain .exit) ≡ plannedChain (now (network .entry)) (now (chain .entry)) (now (kept .entry)) ⌝ }
-    ensures kept { λ r. ⌜ now (kept .exit) ≡ plannedKept (now (network .entry)) (now (chain .entry)) (now (kept .entry)) ⌝ }
+    ensures chain { λ r. ⌜ now (chain .exit) ≡
+        plannedChain (now (network .entry)) (now (chain .entry)) (now (kept .entry)) ⌝ }
+    ensures kept { λ r. ⌜ now (kept .exit) ≡
+        plannedKept (now (network .entry)) (now (chain .entry)) (now (kept .entry)) ⌝ }
 {
     let accepted = accept(network);
     let refusal = accepted.refusal;
@@ -76,7 +78,9 @@ pub fn plan(network: &[u8], chain: &mut [u8], kept: &mut [u8]) -> Planned
         return Planned::Refused(refusal);
     }
     let state = accepted.network;
-    let mut planned = [0u8; CHAIN_ROOM];
-    let plan = plan_into(state, &mut planned);
-    hand_over(state, plan, &planned, chain, kept)
+    let mut v = [0u16; STEP_LIMIT];
+    let mut x = [0u16; STEP_LIMIT];
+    let mut y = [0u16; STEP_LIMIT];
+    let plan = plan_steps(state, &mut v, &mut x, &mut y);
+    hand_over(state, plan, &v, &x, &y, chain, kept)
 }

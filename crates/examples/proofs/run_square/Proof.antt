@@ -57,7 +57,8 @@ split-requires-2 c κs = rw (middle (c .before .before .before .before)) square-
 
 cables-requires-2 : tie.Need-cables-requires-2
 unfolding network split
-cables-requires-2 c κs = rw (c .split2 .ensures, middle (c .before .before .before .before .before)) (lit≤ tt, square-light)
+cables-requires-2 c κs =
+    rw (c .split2 .ensures, middle (c .before .before .before .before .before)) (lit≤ tt, square-light)
 
 square-back-requires : tie.Need-square-back-requires
 square-back-requires c κs = search needs

@@ -35,7 +35,8 @@ split-requires c κs = rw (c .before .before .before .before .triangle .ensures)
 
 cables-requires : tie.Need-cables-requires
 unfolding network split
-cables-requires c κs = rw (c .split .ensures, c .before .before .before .before .before .triangle .ensures) (lit≤ tt, triangle-light)
+cables-requires c κs =
+    rw (c .split .ensures, c .before .before .before .before .before .triangle .ensures) (lit≤ tt, triangle-light)
 
 slice-aggregate-text-3 : tie.Need-slice-aggregate-text-3
 slice-aggregate-text-3 c = search needs

@@ -5,7 +5,7 @@ use borrow.Author.Needs.{needs}
 use lib.ListN.{length}
 use Rattle.graph.specs.Cut.{everyCut}
 use Rattle.graph.specs.Split.{admissible}
-use Rattle.graph.specs.State.{edgeLimit}
+use Rattle.base.specs.Limits.{edgeLimit}
 use Rattle.graph.proofs.Splitting.{split-with}
 use Rattle.flow.proofs.Partnering.{splittable, split-formed}
 use Rattle.flow.proofs.admissible.Statement.{statement}
@@ -21,7 +21,8 @@ every-cut-four-requires c κs = rw (c .split .ensures) (split-formed (c .before 
 
 returns : tie.Need-returns
 unfolding admissible
-returns c = c .every-cut-four .ensures ∙ ap (everyCut 4) (c .before .split .ensures ∙ sym (split-with _ _ _ (c .before .before .pre .others)))
+returns c = c .every-cut-four .ensures
+    ∙ ap (everyCut 4) (c .before .split .ensures ∙ sym (split-with _ _ _ (c .before .before .pre .others)))
 
 pub admissible-spec : {M : Type 1} → statement M
 admissible-spec = tie.close (tie.spec split-requires every-cut-four-requires returns)

@@ -6,8 +6,8 @@ use native.Mathlib.Omega.{arith}
 use borrow.Author.Needs.{needs}
 use borrow.Author.Tests.{not-true, not-false}
 use lib.ListN.{length}
-use Rattle.graph.specs.State.{vertexLimit}
-use Rattle.graph.proofs.Bools.{never}
+use Rattle.base.specs.Limits.{vertexLimit}
+use Rattle.base.proofs.Bools.{never}
 use Rattle.flow.proofs.Anchored.{Tested, tested-none, tested-on, tested-all, tested-fails}
 use Rattle.flow.proofs.every_cut_four.Statement.{statement}
 use Rattle.flow.proofs.every_cut_four.Tie as tie
@@ -19,9 +19,11 @@ Inv-loop present vertices ends ports anchor vertex₀ vertex =
 abbrev μ-loop : tie.MeasureT-loop
 μ-loop present vertices ends ports anchor vertex₀ vertex = vertices - vertex
 
-few : (c : tie.After-first-present Inv-loop μ-loop) → c .before .before .before .before .before .before .args .network .vertices ≤ vertexLimit
+few : (c : tie.After-first-present Inv-loop μ-loop)
+    → c .before .before .before .before .before .before .args .network .vertices ≤ vertexLimit
 few c =
-    let long : length (c .before .before .before .before .before .before .args .network .present) ≡ vertexLimit = search needs in
+    let long : length (c .before .before .before .before .before .before .args .network .present) ≡ vertexLimit =
+    search needs in
     omega (arith, c .before .before .before .before .before .before .pre .present-room)
 
 -- in a turn of the loop: what the function was given
@@ -71,8 +73,10 @@ returns : tie.Need-returns Inv-loop μ-loop
 returns c =
     let turn = c .before .before .before .before .before in
     let anchor = turn .before .before .first-present .ensures in
-    let answer = c .before .four-paths .ensures _ (turn .before .before .before .before .before .before .lay .ensures) in
-    tested-fails (entry turn .pre) anchor (turn .before .loop .inv .1) (turn .loop-test .taken) (c .before .before .before .before .if1 .taken)
+    let answer = c .before .four-paths .ensures _ (turn .before .before .before .before .before .before .lay .ensures)
+    in
+    tested-fails (entry turn .pre) anchor (turn .before .loop .inv .1) (turn .loop-test .taken)
+    (c .before .before .before .before .if1 .taken)
     (λ apart. never (sym (not-true _ (c .if2 .taken)) ∙ answer .1 apart))
 
 add-vertex-2 : tie.Need-add-vertex-2 Inv-loop μ-loop
@@ -96,7 +100,8 @@ returns-2 : tie.Need-returns-2 Inv-loop μ-loop
 returns-2 c =
     let anchor = c .before .before .first-present .ensures in
     let laid = c .before .before .before .before .before .before .lay .ensures in
-    tested-all (c .before .before .before .before .before .before .before .before .pre) anchor laid (c .loop-test .left) (c .before .loop .inv .2)
+    tested-all (c .before .before .before .before .before .before .before .before .pre) anchor laid (c .loop-test .left)
+    (c .before .loop .inv .2)
 
 pub every-cut-four-spec : {M : Type 1} → statement M
 every-cut-four-spec =

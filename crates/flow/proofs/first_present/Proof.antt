@@ -21,7 +21,12 @@ shared-slice-read-if1 : tie.Need-shared-slice-read-if1 Inv-loop μ-loop
 shared-slice-read-if1 c = omega arith
 
 returns : tie.Need-returns Inv-loop μ-loop
-returns c = record { within = c .before .before .before .loop .inv .0; is-present = λ _. c .if1 .taken; none-before = c .before .before .before .loop .inv .1 }
+returns c = record {
+  within = c .before .before .before .loop .inv .0;
+  is-present = λ _. c .if1 .taken;
+  none-before =
+      c .before .before .before .loop .inv .1;
+}
 
 add-vertex : tie.Need-add-vertex Inv-loop μ-loop
 add-vertex c = omega arith
@@ -33,7 +38,8 @@ loop-again : tie.Need-loop-again Inv-loop μ-loop
 loop-again c = (omega arith, below-more _ _ (c .before .before .before .loop .inv .1) (c .if1 .left))
 
 returns-2 : tie.Need-returns-2 Inv-loop μ-loop
-returns-2 c = record { within = c .before .loop .inv .0; is-present = λ l. absurd (omega arith); none-before = c .before .loop .inv .1 }
+returns-2 c = record
+    { within = c .before .loop .inv .0; is-present = λ l. absurd (omega arith); none-before = c .before .loop .inv .1 }
 
 pub first-present-spec : {M : Type 1} → statement M
 first-present-spec =

@@ -4,8 +4,8 @@ use mathlib.Core.Bool.{false}
 use Prim.Native.Nat.{_-_}
 use native.Mathlib.Omega.{arith}
 use lib.Dec.{ltb}
-use Rattle.graph.specs.State.{vertexLimit}
-use Rattle.loading.proofs.Filling.{Filled, filled-none, filled-more, filled-all}
+use Rattle.base.specs.Limits.{vertexLimit}
+use Rattle.base.proofs.Filling.{Filled, filled-none, filled-more, filled-all}
 use Rattle.loading.proofs.present.Statement.{statement}
 use Rattle.loading.proofs.present.Tie as tie
 

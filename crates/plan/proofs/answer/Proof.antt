@@ -3,7 +3,6 @@ use mathlib.Core.Path.{sym, _∙_}
 use native.Mathlib.Omega.{arith}
 use lib.Seq.{length-take-le}
 use borrow.Author.Needs.{needs}
-use Rattle.thinning.proofs.Longest.{bytes-of-longest-plan}
 use Rattle.plan.proofs.Written.{written-short}
 use Rattle.plan.proofs.answer.Statement.{statement}
 use Rattle.plan.proofs.answer.Tie as tie
@@ -15,25 +14,40 @@ slice-aggregate-plan-roomy-2 : tie.Need-slice-aggregate-plan-roomy-2
 slice-aggregate-plan-roomy-2 c = search needs
 
 plan-roomy-requires : tie.Need-plan-roomy-requires
-plan-roomy-requires c κs = (omega (arith, bytes-of-longest-plan), omega (arith, bytes-of-longest-plan))
+plan-roomy-requires c κs = (omega arith, omega arith)
 
 enum-known-chain-length : tie.Need-enum-known-chain-length
 enum-known-chain-length c = search needs
 
 array-share-prefix-chain : tie.Need-array-share-prefix-chain
-array-share-prefix-chain c = omega (arith, bytes-of-longest-plan, written-short _ _ _ (sym (c .before .chain-length .given .1) ∙ c .before .before .before .before .before .plan-roomy .ensures .0) .0)
+array-share-prefix-chain c =
+    omega (
+      arith,
+      written-short _ _ _ (sym (c .before .chain-length .given .1)
+          ∙ c .before .before .before .before .before .plan-roomy .ensures .0) .0,
+    )
 
 slice-aggregate-write-all : tie.Need-slice-aggregate-write-all
-slice-aggregate-write-all c = sym (length-take-le _ (c .before .before .before .before .before .before .plan-roomy .last .1 .0) (array-share-prefix-chain (c .before)))
+slice-aggregate-write-all c =
+    sym (length-take-le _ (c .before .before .before .before .before .before .plan-roomy .last .1 .0)
+    (array-share-prefix-chain (c .before)))
 
 write-all-requires : tie.Need-write-all-requires
 write-all-requires c κs = search needs
 
 array-share-prefix-kept : tie.Need-array-share-prefix-kept
-array-share-prefix-kept c = let k = c .before .before in omega (arith, bytes-of-longest-plan, written-short _ _ _ (sym (k .before .chain-length .given .1) ∙ k .before .before .before .before .before .plan-roomy .ensures .0) .1)
+array-share-prefix-kept c = let k =
+    c .before .before in
+    omega (
+      arith,
+      written-short _ _ _ (sym (k .before .chain-length .given .1)
+          ∙ k .before .before .before .before .before .plan-roomy .ensures .0) .1,
+    )
 
 slice-aggregate-write-all-2 : tie.Need-slice-aggregate-write-all-2
-slice-aggregate-write-all-2 c = sym (length-take-le _ (c .before .before .before .before .before .before .before .before .plan-roomy .last .1 .1 .0) (array-share-prefix-kept (c .before)))
+slice-aggregate-write-all-2 c =
+    sym (length-take-le _ (c .before .before .before .before .before .before .before .before .plan-roomy .last .1 .1 .0)
+    (array-share-prefix-kept (c .before)))
 
 write-all-requires-2 : tie.Need-write-all-requires-2
 write-all-requires-2 c κs = search needs

@@ -1,7 +1,6 @@
 -- `plan::main` meets its contract.
 use native.Mathlib.Omega.{arith}
 use borrow.Author.Needs.{needs}
-use Rattle.texts.proofs.NetworksLongest.{bytes-of-longest}
 use Rattle.plan.proofs.main.Statement.{statement}
 use Rattle.plan.proofs.main.Tie as tie
 
@@ -9,7 +8,7 @@ slice-aggregate-read-input : tie.Need-slice-aggregate-read-input
 slice-aggregate-read-input c = search needs
 
 read-input-requires : tie.Need-read-input-requires
-read-input-requires c κs = omega (arith, bytes-of-longest)
+read-input-requires c κs = omega arith
 
 array-share-prefix-input : tie.Need-array-share-prefix-input
 array-share-prefix-input c = search needs

@@ -1,7 +1,7 @@
 -- `plan::plan_roomy` meets its contract.
 use mathlib.Core.Path.{_∙_, ap}
 use borrow.Author.Needs.{needs}
-use Rattle.frame.specs.Answer.{filled}
+use Rattle.base.specs.Answer.{filled}
 use Rattle.thinning.specs.Services.{plannedOf}
 use Rattle.thinning.proofs.Longest.{every-plan-fits}
 use Rattle.plan.proofs.plan_roomy.Statement.{statement}
@@ -20,7 +20,8 @@ returns : tie.Need-returns
 returns c =
     let p = c .before .before .before .before in
     let s = p .before .before .before .before .before .before in
-    let e = every-plan-fits (s .args .network .now) (s .args .chain .now) (s .args .kept .now) (s .pre .0) (s .pre .1) in (
+    let e = every-plan-fits (s .args .network .now) (s .args .chain .now) (s .args .kept .now) (s .pre .0)
+    (s .pre .1) in (
       p .plan .ensures .0 ∙ ap plannedOf e,
       (
         p .plan .ensures .1 .0 ∙ ap (λ a. filled (λ t. t .chain) a (s .args .chain .now)) e,

@@ -3,7 +3,7 @@ use mathlib.Core.Path.{sym, _∙_}
 use native.Mathlib.Omega.{arith}
 use lib.Seq.{length-take-le}
 use borrow.Author.Needs.{needs}
-use Rattle.frame.proofs.Answers.{done-fits}
+use Rattle.base.proofs.Answers.{done-fits}
 use Rattle.plan.proofs.refuse.Statement.{statement}
 use Rattle.plan.proofs.refuse.Tie as tie
 
@@ -23,10 +23,17 @@ returns : tie.Need-returns
 returns c = search needs
 
 array-share-prefix-line : tie.Need-array-share-prefix-line
-array-share-prefix-line c = omega (arith, done-fits _ _ _ (sym (c .before .length .given .1) ∙ c .before .before .before .before .write-refusal .ensures .0))
+array-share-prefix-line c =
+    omega (
+      arith,
+      done-fits _ _ _
+          (sym (c .before .length .given .1) ∙ c .before .before .before .before .write-refusal .ensures .0),
+    )
 
 slice-aggregate-write-all : tie.Need-slice-aggregate-write-all
-slice-aggregate-write-all c = sym (length-take-le _ (c .before .before .before .before .before .write-refusal .last .1 .0) (array-share-prefix-line (c .before)))
+slice-aggregate-write-all c =
+    sym (length-take-le _ (c .before .before .before .before .before .write-refusal .last .1 .0)
+    (array-share-prefix-line (c .before)))
 
 write-all-requires : tie.Need-write-all-requires
 write-all-requires c κs = search needs

@@ -3,7 +3,7 @@ use mathlib.Core.Path.{sym, _∙_}
 use native.Mathlib.Omega.{arith}
 use lib.Seq.{length-take-le}
 use borrow.Author.Needs.{needs}
-use Rattle.frame.proofs.Answers.{done-fits}
+use Rattle.base.proofs.Answers.{done-fits}
 use Rattle.trials.proofs.chain.Statement.{statement}
 use Rattle.trials.proofs.chain.Tie as tie
 
@@ -32,10 +32,18 @@ say-requires-3 : tie.Need-say-requires-3
 say-requires-3 c κs = search needs
 
 array-share-prefix-kept : tie.Need-array-share-prefix-kept
-array-share-prefix-kept c = omega (arith, done-fits _ _ _ (sym (c .before .before .before .length .given .1) ∙ c .before .before .before .before .before .before .check-chain .ensures .0))
+array-share-prefix-kept c =
+    omega (
+      arith,
+      done-fits _ _ _
+          (sym (c .before .before .before .length .given .1)
+          ∙ c .before .before .before .before .before .before .check-chain .ensures .0),
+    )
 
 slice-aggregate-write-all : tie.Need-slice-aggregate-write-all
-slice-aggregate-write-all c = sym (length-take-le _ (c .before .before .before .before .before .before .before .check-chain .last .1 .1 .0) (array-share-prefix-kept (c .before)))
+slice-aggregate-write-all c =
+    sym (length-take-le _ (c .before .before .before .before .before .before .before .check-chain .last .1 .1 .0)
+    (array-share-prefix-kept (c .before)))
 
 write-all-requires : tie.Need-write-all-requires
 write-all-requires c κs = search needs

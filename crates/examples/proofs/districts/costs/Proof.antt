@@ -4,7 +4,7 @@ use native.Mathlib.Omega.{arith}
 use lib.IntN.{pos}
 use lib.ListN.{length}
 use mir.Facts.{toZ-ofZ}
-use Rattle.graph.specs.State.{edgeLimit}
+use Rattle.base.specs.Limits.{edgeLimit}
 use Rattle.examples.proofs.Copies.{Copied, copied-none, copied-more, copied-all}
 use Rattle.examples.proofs.districts.costs.Statement.{statement}
 use Rattle.examples.proofs.districts.costs.Tie as tie
@@ -38,7 +38,8 @@ loop-less c = omega arith
 
 loop-again : tie.Need-loop-again Inv-loop μ-loop
 loop-again c =
-    rw (toZ-ofZ (record { sfits = c .column .given })) (copied-more (omega arith) (omega arith) (c .before .before .loop .inv))
+    rw (toZ-ofZ (record { sfits = c .column .given }))
+    (copied-more (omega arith) (omega arith) (c .before .before .loop .inv))
 
 returns : tie.Need-returns Inv-loop μ-loop
 returns c = copied-all (omega arith) (c .before .loop .inv)

@@ -2,7 +2,7 @@
 use Prim.Native.Nat.{_-_}
 use native.Mathlib.Omega.{arith}
 use lib.ListN.{length}
-use Rattle.graph.specs.State.{edgeLimit}
+use Rattle.base.specs.Limits.{edgeLimit}
 use Rattle.examples.proofs.Copies.{Copied, copied-none, copied-more, copied-all}
 use Rattle.examples.proofs.districts.ends.Statement.{statement}
 use Rattle.examples.proofs.districts.ends.Tie as tie

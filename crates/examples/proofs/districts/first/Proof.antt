@@ -3,7 +3,7 @@ use mathlib.Core.Bool.{true, false}
 use Prim.Native.Nat.{_-_}
 use native.Mathlib.Omega.{arith}
 use lib.ListN.{replicate, length-replicate, getD-replicate}
-use Rattle.graph.specs.State.{vertexLimit}
+use Rattle.base.specs.Limits.{vertexLimit}
 use Rattle.examples.proofs.Copies.{Copied, copied-none, copied-more, copied-all}
 use Rattle.examples.proofs.districts.first.Statement.{statement}
 use Rattle.examples.proofs.districts.first.Tie as tie
@@ -31,10 +31,12 @@ loop-again c =
     let n = c .before .before .args .n in
     let v = c .before .loop .v in
     let l = length-replicate n true in
-    rw (getD-replicate n v true false (c .loop-test .taken)) at (copied-more (omega arith) (omega arith) (c .before .loop .inv))
+    rw (getD-replicate n v true false (c .loop-test .taken)) at
+    (copied-more (omega arith) (omega arith) (c .before .loop .inv))
 
 returns : tie.Need-returns Inv-loop μ-loop
-returns c = let l = length-replicate (c .before .before .args .n) true in copied-all (omega arith) (c .before .loop .inv)
+returns c = let l = length-replicate (c .before .before .args .n) true in
+    copied-all (omega arith) (c .before .loop .inv)
 
 pub first-spec : {M : Type 1} → statement M
 first-spec =

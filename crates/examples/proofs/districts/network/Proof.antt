@@ -19,8 +19,12 @@ first-requires c κs = search needs
 returns : tie.Need-returns
 unfolding network
 returns c =
-    simp
-    (c .before .before .before .ends .ensures, c .before .before .ends2 .ensures, c .before .costs .ensures, c .first .ensures)
+    simp (
+      c .before .before .before .ends .ensures,
+      c .before .before .ends2 .ensures,
+      c .before .costs .ensures,
+      c .first .ensures,
+    )
 
 pub network-spec : {M : Type 1} → statement M
 network-spec =

@@ -30,7 +30,8 @@ cable-requires : tie.Need-cable-requires Inv-loop μ-loop
 cable-requires c κs =
     let s = c .before .before .before .before .before in
     let e = c .before .before .before .before .loop .e in
-    rw (cost-kept (s .args .t1) (s .pre .1) e (omega arith)) (omega (arith, cost-below (s .args .t1) (s .pre .1) e (omega arith)))
+    rw (cost-kept (s .args .t1) (s .pre .1) e (omega arith))
+    (omega (arith, cost-below (s .args .t1) (s .pre .1) e (omega arith)))
 
 add-e : tie.Need-add-e Inv-loop μ-loop
 add-e c = omega arith

@@ -1,7 +1,7 @@
 -- `examples::print::kept` meets its contract.
 use Prim.Native.Nat.{_-_, _≤_}
 use borrow.Author.Needs.{needs}
-use Rattle.graph.specs.State.{edgeLimit}
+use Rattle.base.specs.Limits.{edgeLimit}
 use Rattle.examples.proofs.print.kept.Statement.{statement}
 use Rattle.examples.proofs.print.kept.Tie as tie
 

@@ -1,7 +1,7 @@
 -- `examples::print::size` meets its contract.
 use mathlib.Core.Bool.{true, false}
 use mathlib.Core.Path.{_≡_, ap}
-use Prim.Native.Nat.{ℕ, suc}
+use Prim.Native.Nat.{suc}
 use native.Mathlib.Nat.{zero-add}
 use native.Mathlib.Omega.{arith}
 use borrow.Author.Needs.{needs}
@@ -12,6 +12,7 @@ use lib.Signed.{ltZ, nonNeg}
 use mir.Syntax.{w64}
 use mir.Val.{toZ, ofZ}
 use mir.Facts.{toZ-ofZ}
+use Rattle.base.proofs.Bools.{no-answer}
 use Rattle.examples.proofs.print.size.Statement.{statement}
 use Rattle.examples.proofs.print.size.Tie as tie
 
@@ -22,7 +23,7 @@ negated (negsuc n) below = ap pos (zero-add (suc n))
 
 not-below : (z : ℤ) → ltZ z (pos 0) ≡ false → T (nonNeg z)
 not-below (pos n) e = tt
-not-below (negsuc n) e = let z : _≡_ {A = ℕ} 0 1 = cc in absurd (omega arith)
+not-below (negsuc n) e = no-answer (cc)
 
 -- the cost below 0, negated, is its size
 size-of : (c : tie.Then1) → pos 0 -ℤ toZ w64 (ofZ w64 (c .before .args .cost)) ≡ pos (natAbs (c .before .args .cost))

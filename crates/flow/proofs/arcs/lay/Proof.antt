@@ -4,7 +4,7 @@ use Prim.Native.Nat.{_-_, _≤_}
 use native.Mathlib.Omega.{arith}
 use borrow.Author.Needs.{needs}
 use lib.ListN.{length}
-use Rattle.graph.specs.State.{edgeLimit}
+use Rattle.base.specs.Limits.{edgeLimit}
 use Rattle.flow.specs.Arcs.{LaidTo}
 use Rattle.flow.proofs.Laying.{laid-none, laid-on}
 use Rattle.flow.proofs.arcs.lay.Statement.{statement}
@@ -43,10 +43,15 @@ loop-less : tie.Need-loop-less Inv-loop μ-loop
 loop-less c = omega arith
 
 loop-again : tie.Need-loop-again Inv-loop μ-loop
-loop-again c = (c .before .before .before .loop .inv .0, omega arith, laid-on (c .before .before .before .loop .inv .2) (omega arith))
+loop-again c = (
+  c .before .before .before .loop .inv .0,
+  omega arith,
+  laid-on (c .before .before .before .loop .inv .2) (omega arith),
+)
 
 returns : tie.Need-returns Inv-loop μ-loop
-returns c = let e : c .before .loop .edge ≡ c .before .before .args .t1 .edges = omega arith in rw e at (c .before .loop .inv .2)
+returns c = let e : c .before .loop .edge ≡ c .before .before .args .t1 .edges =
+    omega arith in rw e at (c .before .loop .inv .2)
 
 pub lay-spec : {M : Type 1} → statement M
 lay-spec =

@@ -1,7 +1,7 @@
 -- `wire` meets its contract: it stays within its tables.
 use Prim.Native.Nat.{_-_, _≤_, _<_}
 use native.Mathlib.Omega.{arith}
-use Rattle.graph.specs.State.{vertexLimit}
+use Rattle.base.specs.Limits.{vertexLimit}
 use Rattle.flow.specs.Arcs.{arcLimit, tail}
 use Rattle.flow.proofs.arcs.wire.Statement.{statement}
 use Rattle.flow.proofs.arcs.wire.Tie as tie
@@ -13,7 +13,9 @@ abbrev μ-loop : tie.MeasureT-loop
 μ-loop ends ports₀ used₀ arc₀ ports used arc = arcLimit - arc
 
 -- the arc starts at a vertex
-vertex : (c : tie.Then1 Inv-loop μ-loop) → tail (c .before .before .before .before .before .args .ends .now) (c .before .before .before .before .loop .arc) < vertexLimit
+vertex : (c : tie.Then1 Inv-loop μ-loop)
+    → tail (c .before .before .before .before .before .args .ends .now) (c .before .before .before .before .loop .arc) <
+    vertexLimit
 vertex c = omega (arith, c .before .before .shared-slice-known .given (c .before .before .before .before .loop .arc))
 
 loop-holds : tie.Need-loop-holds Inv-loop μ-loop

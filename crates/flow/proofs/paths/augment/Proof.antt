@@ -1,19 +1,23 @@
--- `augment` meets its contract: the unit goes back along the trail, from number to lower number, until it comes to a source.
+-- `augment` meets its contract: the unit goes back along the trail,
+-- from number to lower number, until it comes to a source.
 use Prim.Native.Nat.{ℕ}
 use native.Mathlib.Omega.{arith}
 use Rattle.flow.specs.Arcs.{at, tail}
 use Rattle.flow.specs.Search.{Link}
-use Rattle.flow.proofs.Pushing.{Partway, partway-none, partway-on, partway-sent, link-back, carries-back, number-most}
+use Rattle.flow.proofs.Pushing.{Partway, partway-none, partway-on, partway-sent, link-back, carries-back}
+use Rattle.flow.proofs.Pushing.{number-most}
 use Rattle.flow.proofs.paths.augment.Statement.{statement}
 use Rattle.flow.proofs.paths.augment.Tie as tie
 
 abbrev Inv-loop : tie.InvT-loop
-Inv-loop ends residual₀ order trail vertex number₀ residual number = Partway ends order trail vertex residual₀ residual number
+Inv-loop ends residual₀ order trail vertex number₀ residual number =
+    Partway ends order trail vertex residual₀ residual number
 
 abbrev μ-loop : tie.MeasureT-loop
 μ-loop ends residual₀ order trail vertex number₀ residual number = number
 
--- the turn that has come to its end; in a turn, what the function was given, and the arc by which the vertex was reached that the unit has to come to
+-- the turn that has come to its end; in a turn, what the function was given, and the arc by which the vertex was
+-- reached that the unit has to come to
 abbrev turn : tie.After-shared-slice-known7 Inv-loop μ-loop → tie.In-loop Inv-loop μ-loop
 turn c = c .before .before .before .before .before .before .before
 
@@ -24,7 +28,8 @@ abbrev arc : tie.In-loop Inv-loop μ-loop → ℕ
 arc c = at (entry c .args .trail .now) (c .before .loop .number)
 
 link : (c : tie.In-loop Inv-loop μ-loop)
-    → Link (entry c .args .ends .now) (entry c .args .residual .now) (entry c .args .order .now) (arc c) (c .before .loop .inv .vertex)
+    → Link (entry c .args .ends .now) (entry c .args .residual .now) (entry c .args .order .now) (arc c)
+    (c .before .loop .inv .vertex)
 link c = link-back (entry c .pre) (c .before .loop .inv) (c .loop-test .taken)
 
 mul-number : tie.Need-mul-number Inv-loop μ-loop
@@ -50,8 +55,10 @@ cast-arc c = omega (arith, link (c .before) .arc)
 
 push-requires : tie.Need-push-requires Inv-loop μ-loop
 push-requires c κs =
-    let way = c .before .before .before .loop .inv in
-    (link (c .before .before) .arc, (carries-back (entry (c .before .before) .pre) way (c .before .before .loop-test .taken), way .balanced))
+    let way = c .before .before .before .loop .inv in (
+      link (c .before .before) .arc,
+      (carries-back (entry (c .before .before) .pre) way (c .before .before .loop-test .taken), way .balanced),
+    )
 
 shared-slice-read-from : tie.Need-shared-slice-read-from Inv-loop μ-loop
 shared-slice-read-from c = omega (arith, link (c .before .before .before .before .before .before) .arc)
@@ -74,13 +81,19 @@ loop-less c = omega (arith, link (turn c) .earlier, turn c .before .loop .inv .n
 loop-again : tie.Need-loop-again Inv-loop μ-loop
 loop-again c =
     let t = turn c in
-    rw (c .before .before .before .before .push .ensures) (partway-on (entry t .pre) (t .before .loop .inv) (t .loop-test .taken))
+    rw (c .before .before .before .before .push .ensures)
+    (partway-on (entry t .pre) (t .before .loop .inv) (t .loop-test .taken))
 
 same-length : tie.Need-same-length Inv-loop μ-loop
-same-length c = omega (arith, c .before .loop .inv .balanced .long, c .before .before .before .before .before .before .before .pre .balanced .long)
+same-length c = omega (
+  arith,
+  c .before .loop .inv .balanced .long,
+  c .before .before .before .before .before .before .before .pre .balanced .long,
+)
 
 returns : tie.Need-returns Inv-loop μ-loop
-returns c = partway-sent (c .before .before .before .before .before .before .before .pre) (c .before .loop .inv) (c .loop-test .left)
+returns c = partway-sent (c .before .before .before .before .before .before .before .pre) (c .before .loop .inv)
+    (c .loop-test .left)
 
 pub augment-spec : {M : Type 1} → statement M
 augment-spec =

@@ -3,7 +3,7 @@ use mathlib.Core.Path.{refl}
 use native.Mathlib.Omega.{arith}
 use lib.ListN.{replicate}
 use borrow.Author.Needs.{needs}
-use Rattle.graph.specs.State.{vertexLimit}
+use Rattle.base.specs.Limits.{vertexLimit}
 use Rattle.flow.proofs.Rounds.{Blank, blank, sown-tree, sendable, round-sent, round-full}
 use Rattle.flow.proofs.paths.round.Statement.{statement}
 use Rattle.flow.proofs.paths.round.Tie as tie
@@ -51,8 +51,9 @@ same-length c = search needs
 
 returns : tie.Need-returns
 returns c =
-    let entry = c .before .before .before .before .before .before .before .before .before .before .before .before .before in
-    round-full (start entry) (c .before .before .before .before .search .ensures) (c .enum-told .given .1) (entry .pre .1 .1)
+    let searched = c .before .before .before .before in
+    let entry = searched .before .before .before .before .before .before .before .before .before in
+    round-full (start entry) (searched .search .ensures) (c .enum-told .given .1) (entry .pre .1 .1)
 
 slice-aggregate-augment : tie.Need-slice-aggregate-augment
 slice-aggregate-augment c = search needs
@@ -62,18 +63,20 @@ slice-aggregate-augment-2 c = search needs
 
 augment-requires : tie.Need-augment-requires
 augment-requires c κs =
-    let entry = c .before .before .before .before .before .before .before .before .before .before .before .before .before .before .before .before .before in
-    let searched = c .before .before .before .before .before .before .before .before .search .ensures in
-    sendable (start entry) searched (c .before .before .before .before .found .given .1) (entry .pre .1 .1)
+    let found = c .before .before .before .before in
+    let searched = found .before .before .before .before in
+    let entry = searched .before .before .before .before .before .before .before .before .before in
+    sendable (start entry) (searched .search .ensures) (found .found .given .1) (entry .pre .1 .1)
 
 same-length-2 : tie.Need-same-length-2
 same-length-2 c = search needs
 
 returns-2 : tie.Need-returns-2
 returns-2 c =
-    let entry = c .before .before .before .before .before .before .before .before .before .before .before .before .before .before .before .before .before .before .before .before in
-    let searched = c .before .before .before .before .before .before .before .before .before .before .before .search .ensures in
-    round-sent (start entry) searched (c .before .before .before .before .before .before .before .found .given .1) (c .before .before .augment .ensures)
+    let found = c .before .before .before .before .before .before .before in
+    let searched = found .before .before .before .before in
+    let entry = searched .before .before .before .before .before .before .before .before .before in
+    round-sent (start entry) (searched .search .ensures) (found .found .given .1) (c .before .before .augment .ensures)
 
 pub round-spec : {M : Type 1} → statement M
 round-spec =

@@ -6,14 +6,23 @@ use Rattle.flow.proofs.Reaching.{LeadsOn, number-left, leads-on}
 use Rattle.flow.proofs.search.relax.Statement.{statement}
 use Rattle.flow.proofs.search.relax.Tie as tie
 
+-- what the function was given, seen from where all tests have passed
+abbrev entry : tie.Else3 → tie.Start
+entry c = c .before .before .before .before .before .before .before .before
+
 -- where all tests have passed, the arc leads on
 found : (c : tie.Else3)
-    → (let given = c .before .before .before .before .before .before .before .before .args in
-    LeadsOn (given .ends .now) (given .residual .now) (given .order .now) (given .trail .now) (given .clock) (given .arc))
+    → (let given = entry c .args in
+    LeadsOn (given .ends .now) (given .residual .now) (given .order .now) (given .trail .now) (given .clock)
+    (given .arc))
 found c = record {
-  tree = c .before .before .before .before .before .before .before .before .pre .1;
-  arc = c .before .before .before .before .before .before .before .before .pre .0;
-  vertex = omega (arith, c .before .before .shared-slice-known3 .given (reverse (c .before .before .before .before .before .before .before .before .args .arc)));
+  tree = entry c .pre .1;
+  arc = entry c .pre .0;
+  vertex = omega (
+    arith,
+    c .before .before .shared-slice-known3 .given
+        (reverse (entry c .args .arc)),
+  );
   carries = omega arith;
   from = omega arith;
   new = c .if3 .left;
@@ -47,13 +56,23 @@ shared-slice-read-to : tie.Need-shared-slice-read-to
 shared-slice-read-to c = search needs
 
 cast-to : tie.Need-cast-to
-cast-to c = omega (arith, c .shared-slice-known3 .given (reverse (c .before .before .before .before .before .before .args .arc)))
+cast-to c = omega (
+  arith,
+  c .shared-slice-known3 .given (reverse (c .before .before .before .before .before .before .args .arc)),
+)
 
 mul-if3 : tie.Need-mul-if3
-mul-if3 c = omega (arith, c .shared-slice-known3 .given (reverse (c .before .before .before .before .before .before .args .arc)))
+mul-if3 c = omega (
+  arith,
+  c .shared-slice-known3 .given (reverse (c .before .before .before .before .before .before .args .arc)),
+)
 
 slice-read-if3 : tie.Need-slice-read-if3
-slice-read-if3 c = omega (arith, c .before .shared-slice-known3 .given (reverse (c .before .before .before .before .before .before .before .args .arc)))
+slice-read-if3 c = omega (
+  arith,
+  c .before .shared-slice-known3 .given
+      (reverse (c .before .before .before .before .before .before .before .args .arc)),
+)
 
 returns-3 : tie.Need-returns-3
 returns-3 c = search needs

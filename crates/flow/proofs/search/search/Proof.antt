@@ -1,10 +1,11 @@
--- `search` meets its contract: every visit lets the search grow, and it ends at a sink or after a sweep that reaches nothing new.
+-- `search` meets its contract: every visit lets the search grow, and
+-- it ends at a sink or after a sweep that reaches nothing new.
 use mathlib.Core.Path.{refl}
 use mathlib.Core.Logic.{inl, inr}
 use Prim.Native.Nat.{_+_, _*_, _-_, _≤_}
 use native.Mathlib.Omega.{arith}
 use borrow.Author.Needs.{needs}
-use Rattle.graph.specs.State.{vertexLimit}
+use Rattle.base.specs.Limits.{vertexLimit}
 use Rattle.flow.specs.Search.{Grown, Ends}
 use Rattle.flow.proofs.Reaching.{clock-most, grown-none, grown-on, swept-stuck}
 use Rattle.flow.proofs.search.search.Statement.{statement}
@@ -23,7 +24,8 @@ abbrev entry : tie.At-loop Inv-loop μ-loop → tie.Start Inv-loop μ-loop
 entry c = c .before .before .before .before .before .before .before .before
 
 abbrev visited : tie.After-slice-known6 Inv-loop μ-loop → tie.At-loop Inv-loop μ-loop
-visited c = c .before .before .before .before .before .before .before .before .before .before .before .before .before .before
+visited c = let first = c .before .before .before .before .before .before .before in
+    first .before .before .before .before .before .before .before
 
 cast-first : tie.Need-cast-first Inv-loop μ-loop
 cast-first c = search needs
@@ -109,13 +111,13 @@ same-length-6 c = omega arith
 returns-3 : tie.Need-returns-3 Inv-loop μ-loop
 unfolding Ends
 returns-3 c =
-    let swept = c .before .before .before .before .before .sweep .ensures in
-    let first-missed = c .before .before .before .before .before .before .before .before .before .before .before .if1 .left in
-    let second-missed = c .before .before .before .before .before .before .before .before .before .if2 .left in
+    let swept = c .before .before .before .before .before in
+    let second = swept .before .before .before .before in
+    let first = second .before .before in
     record {
       clock = _;
-      grown = grown-on (c .before .before .before .before .before .before .before .before .before .before .before .before .before .loop .inv .1) (swept .grown);
-      ending = swept-stuck _ swept (c .if4 .taken) first-missed second-missed;
+      grown = grown-on (first .before .before .loop .inv .1) (swept .sweep .ensures .grown);
+      ending = swept-stuck _ (swept .sweep .ensures) (c .if4 .taken) (first .if1 .left) (second .if2 .left);
     }
 
 loop-less-2 : tie.Need-loop-less-2 Inv-loop μ-loop
@@ -123,8 +125,9 @@ loop-less-2 c = omega arith
 
 loop-again-2 : tie.Need-loop-again-2 Inv-loop μ-loop
 loop-again-2 c =
-    let inv = c .before .before .before .before .before .before .before .before .before .before .before .before .before .loop .inv in
-    (inv .0, grown-on (inv .1) (c .before .before .before .before .before .sweep .ensures .grown))
+    let swept = c .before .before .before .before .before in
+    let inv = swept .before .before .before .before .before .before .before .before .loop .inv in
+    (inv .0, grown-on (inv .1) (swept .sweep .ensures .grown))
 
 pub search-spec : {M : Type 1} → statement M
 search-spec =

@@ -30,7 +30,8 @@ shared-slice-read-arc c = omega arith
 
 cast-arc : tie.Need-cast-arc Inv-loop μ-loop
 cast-arc c =
-    let port = 4 * c .before .before .before .before .before .before .before .before .args .vertex + c .before .before .loop .port in
+    let port = 4 * c .before .before .before .before .before .before .before .before .args .vertex +
+    c .before .before .loop .port in
     omega (arith, c .shared-slice-known4 .given port)
 
 relax-requires : tie.Need-relax-requires Inv-loop μ-loop

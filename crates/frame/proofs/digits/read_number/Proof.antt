@@ -31,13 +31,19 @@ returns c =
 mul-number : tie.Need-mul-number Inv-loop μ-loop
 mul-number c =
     let l = c .before .before .before .before .loop in
-    omega
-    (arith, reading-fits _ (l .number) (l .i) (l .inv) _ (c .before .value-of .ensures) (search needs) (search needs) (c .if1 .left))
+    omega (
+      arith,
+      reading-fits _ (l .number) (l .i) (l .inv) _ (c .before .value-of .ensures) (search needs) (search needs)
+          (c .if1 .left),
+    )
 
 add-number : tie.Need-add-number Inv-loop μ-loop
 add-number c =
     let l = c .before .before .before .before .loop in
-    record { fits = reading-fits _ (l .number) (l .i) (l .inv) _ (c .before .value-of .ensures) (search needs) (search needs) (c .if1 .left) }
+    record {
+      fits = reading-fits _ (l .number) (l .i) (l .inv) _ (c .before .value-of .ensures) (search needs)
+          (search needs) (c .if1 .left);
+    }
 
 add-i : tie.Need-add-i Inv-loop μ-loop
 add-i c = search needs

@@ -23,12 +23,18 @@ shared-slice-read-if2 c = search needs
 returns-2 : tie.Need-returns-2
 returns-2 c =
     let s = c .before .before .before .before .before in
-    line-no-feed (s .args .row) (s .args .line .now) (s .args .next) _ (c .before .before .before .start-of .ensures) (c .if2 .taken)
+    line-no-feed (s .args .row) (s .args .line .now) (s .args .next) _ (c .before .before .before .start-of .ensures)
+    (c .if2 .taken)
 
 slice-aggregate-read-number : tie.Need-slice-aggregate-read-number
 slice-aggregate-read-number c =
     let s = c .before .before .before .before .before .before in
-    omega (arith, start-end (s .args .row), c .before .before .before .before .start-of .ensures, length-take 2 (s .args .line .now))
+    omega (
+      arith,
+      start-end (s .args .row),
+      c .before .before .before .before .start-of .ensures,
+      length-take 2 (s .args .line .now),
+    )
 
 read-number-requires : tie.Need-read-number-requires
 read-number-requires c κs = (simp length-take (omega arith), c .before .before .before .before .before .before .pre .1)
@@ -41,17 +47,20 @@ enum-told c = search needs
 
 returns-3 : tie.Need-returns-3
 returns-3 c =
-    let s = c .before .before .before .before .before .before .before .before .before in
-    line-no-number (s .args .row) (s .args .line .now) (s .args .next) (sym (c .enum-told .given .1) ∙ c .before .before .read-number .ensures)
+    let read = c .before .before in
+    let a = read .before .before .before .before .before .before .before .args in
+    line-no-number (a .row) (a .line .now) (a .next) (sym (c .enum-told .given .1) ∙ read .read-number .ensures)
 
 kind-of-requires : tie.Need-kind-of-requires
 kind-of-requires c κs = search needs
 
 returns-4 : tie.Need-returns-4
 returns-4 c =
-    let s = c .before .before .before .before .before .before .before .before .before .before .before .before in
-    let g = c .before .before .before .kind .given in
-    line-no-kind (s .args .row) (s .args .line .now) (s .args .next) (g .0 .0) (sym (g .1) ∙ c .before .before .before .before .before .read-number .ensures)
+    let told = c .before .before .before in
+    let read = told .before .before in
+    let a = read .before .before .before .before .before .before .before .args in
+    let g = told .kind .given in
+    line-no-kind (a .row) (a .line .now) (a .next) (g .0 .0) (sym (g .1) ∙ read .read-number .ensures)
     (λ x. c .if3 .taken (x ∙ sym (c .before .kind-of .ensures)))
 
 read-fields-requires : tie.Need-read-fields-requires
@@ -59,11 +68,17 @@ read-fields-requires c κs = search needs
 
 returns-5 : tie.Need-returns-5
 returns-5 c =
-    let s = c .before .before .before .before .before .before .before .before .before .before .before .before .before in
-    let g = c .before .before .before .before .kind .given in
+    let told = c .before .before .before .before in
+    let read = told .before .before in
+    let fed = read .before .before in
+    let long = fed .before .before in
+    let started = long .before in
+    let a = started .before .before .args in
+    let g = told .kind .given in
     c .read-fields .ensures
-    ∙ line-fields (s .args .row) (s .args .line .now) (s .args .next) (g .0 .0) (sym (g .1) ∙ c .before .before .before .before .before .before .read-number .ensures)
-    _ (c .before .before .before .before .before .before .before .before .before .before .before .start-of .ensures) (c .before .before .before .before .before .before .before .before .before .before .if1 .left) (c .before .before .before .before .before .before .before .before .if2 .left) (c .before .if3 .left ∙ c .before .before .kind-of .ensures)
+    ∙ line-fields (a .row) (a .line .now) (a .next) (g .0 .0) (sym (g .1) ∙ read .read-number .ensures) _
+    (started .start-of .ensures) (long .if1 .left) (fed .if2 .left)
+    (c .before .if3 .left ∙ c .before .before .kind-of .ensures)
 
 pub line-at-spec : {M : Type 1} → statement M
 line-at-spec =

@@ -19,19 +19,22 @@ start-of-requires-2 c κs = search needs
 sub-put-number : tie.Need-sub-put-number
 sub-put-number c =
     let s = c .before .before .before in
-    let f = field-at (s .args .row) (s .args .field) _ _ (s .pre .0) (s .pre .1) (c .before .start-of .ensures) (c .start-of2 .ensures) in
+    let f = field-at (s .args .row) (s .args .field) _ _ (s .pre .0) (s .pre .1) (c .before .start-of .ensures)
+    (c .start-of2 .ensures) in
     omega arith
 
 part-put-number-start : tie.Need-part-put-number-start
 part-put-number-start c =
     let s = c .before .before .before in
-    let f = field-at (s .args .row) (s .args .field) _ _ (s .pre .0) (s .pre .1) (c .before .start-of .ensures) (c .start-of2 .ensures) in
+    let f = field-at (s .args .row) (s .args .field) _ _ (s .pre .0) (s .pre .1) (c .before .start-of .ensures)
+    (c .start-of2 .ensures) in
     omega arith
 
 part-put-number-end : tie.Need-part-put-number-end
 part-put-number-end c =
     let s = c .before .before .before in
-    let f = field-at (s .args .row) (s .args .field) _ _ (s .pre .0) (s .pre .1) (c .before .start-of .ensures) (c .start-of2 .ensures) in
+    let f = field-at (s .args .row) (s .args .field) _ _ (s .pre .0) (s .pre .1) (c .before .start-of .ensures)
+    (c .start-of2 .ensures) in
     omega (arith, s .pre .2)
 
 put-number-requires : tie.Need-put-number-requires
@@ -44,7 +47,8 @@ returns : tie.Need-returns
 returns c =
     let s = c .before .before .before .before .before .before .before in
     field-put (s .args .row) (s .args .field) _ _ _ (s .args .out .now) _ (s .pre .0) (s .pre .1) (s .pre .2)
-    (c .before .before .before .before .before .start-of .ensures) (c .before .before .before .before .start-of2 .ensures)
+    (c .before .before .before .before .before .start-of .ensures)
+    (c .before .before .before .before .start-of2 .ensures)
     (c .before .before .put-number .ensures)
 
 pub put-field-spec : {M : Type 1} → statement M

@@ -49,17 +49,21 @@ loop-less c = search needs
 
 loop-again : tie.Need-loop-again Inv-loop μ-loop
 loop-again c =
-    let s = c .before .before .before .before .before .before .before .before .before in
-    let l = c .before .before .before .before .before .loop in
-    put-more (s .args .row) _ _ (l .out) (l .k) (l .inv) (ap length (c .before .before .before .before .before .before .before .numbers .ensures))
-    (search needs) _ (c .before .before .put-field .kept .0) (c .before .before .put-field .ensures)
+    let put = c .before .before in
+    let turn = put .before .before .before in
+    let counted = turn .before .before in
+    let entry = counted .before .before in
+    let l = turn .loop in
+    put-more (entry .args .row) _ _ (l .out) (l .k) (l .inv) (ap length (counted .numbers .ensures)) (search needs) _
+    (put .put-field .kept .0) (put .put-field .ensures)
 
 slice-relend-prefix-put-number : tie.Need-slice-relend-prefix-put-number Inv-loop μ-loop
 slice-relend-prefix-put-number c = omega (arith, start-end (c .before .before .before .before .before .args .row))
 
 slice-aggregate-put-number : tie.Need-slice-aggregate-put-number Inv-loop μ-loop
 slice-aggregate-put-number c =
-    sym (length-take-le 2 (c .before .before .loop .out) (omega (arith, start-end (c .before .before .before .before .before .before .args .row))))
+    sym (length-take-le 2 (c .before .before .loop .out)
+    (omega (arith, start-end (c .before .before .before .before .before .before .args .row))))
 
 kind-of-requires : tie.Need-kind-of-requires Inv-loop μ-loop
 kind-of-requires c κs = search needs
@@ -69,25 +73,32 @@ put-number-requires c κs = search needs
 
 add-result : tie.Need-add-result Inv-loop μ-loop
 add-result c =
-    let s = c .before .before .before .before .before .before .before .before .before .before in
-    let e = c .before .before .before .before .before .before .before .start-of .ensures in
-    omega (arith, e, start-small (s .args .row) (s .pre .0) fields (omega arith))
+    let started = c .before .before .before .before .before .before .before in
+    let entry = started .before .before .before in
+    omega (arith, started .start-of .ensures, start-small (entry .args .row) (entry .pre .0) fields (omega arith))
 
 same-length : tie.Need-same-length Inv-loop μ-loop
 same-length c =
-    let l = c .before .before .before .before .before .before .loop in
-    length-front (l .out) (c .before .before .put-number .last .0) 2 (c .before .before .put-number .kept .0) ∙ l .inv .size ∙ simp length-set
+    let put = c .before .before in
+    let l = put .before .before .before .before .loop in
+    length-front (l .out) (put .put-number .last .0) 2 (put .put-number .kept .0)
+    ∙ l .inv .size ∙ simp length-set
 
 returns : tie.Need-returns Inv-loop μ-loop
 unfolding lineLength
 returns c =
-    let s = c .before .before .before .before .before .before .before .before .before .before in
-    let l = c .before .before .before .before .before .before .loop in
-    let e = c .before .before .before .before .before .before .before .start-of .ensures in
-    let v = c .before .before .before .before .before .before .before .before .numbers .ensures in (
+    let put = c .before .before in
+    let looped = put .before .before .before .before in
+    let started = looped .before in
+    let counted = started .before in
+    let entry = counted .before .before in
+    let a = entry .args in
+    let l = looped .loop in
+    let e = started .start-of .ensures in (
       omega (arith, e),
-      put-all (s .args .row) (s .args .f) _ (s .args .out .now) (l .out) _ _ (l .k) v e (omega (arith, e, s .pre .1)) (l .inv) (search needs)
-          (rw (c .before .before .before .kind-of .ensures) at (c .before .before .put-number .ensures)),
+      put-all (a .row) (a .f) _ (a .out .now) (l .out) _ _ (l .k) (counted .numbers .ensures) e
+          (omega (arith, e, entry .pre .1)) (l .inv) (search needs)
+          (rw (put .before .kind-of .ensures) at (put .put-number .ensures)),
     )
 
 pub put-line-spec : {M : Type 1} → statement M

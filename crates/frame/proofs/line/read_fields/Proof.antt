@@ -30,7 +30,8 @@ returns : tie.Need-returns Inv-loop μ-loop
 returns c =
     let s = c .before .before .before .before .before .before in
     let l = c .before .before .before .before .loop in
-    read-stop (s .args .row) (s .args .line .now) (l .numbers) (l .k) (l .inv) (c .before .before .before .loop-test .taken) (s .args .next)
+    read-stop (s .args .row) (s .args .line .now) (l .numbers) (l .k) (l .inv)
+    (c .before .before .before .loop-test .taken) (s .args .next)
     (sym (c .enum-told .given .1) ∙ c .before .before .read-field .ensures)
 
 mul-numbers : tie.Need-mul-numbers Inv-loop μ-loop
@@ -50,7 +51,8 @@ loop-again c =
     let s = c .before .before .before .before .before .before .before in
     let l = c .before .before .before .before .before .loop in
     let g = c .before .number .given in
-    read-more (s .args .row) (s .args .line .now) (l .numbers) (l .k) (l .inv) (c .before .before .before .before .loop-test .taken) (g .0 .0)
+    read-more (s .args .row) (s .args .line .now) (l .numbers) (l .k) (l .inv)
+    (c .before .before .before .before .loop-test .taken) (g .0 .0)
     (sym (g .1) ∙ c .before .before .before .read-field .ensures)
 
 of-requires : tie.Need-of-requires Inv-loop μ-loop
@@ -60,7 +62,8 @@ returns-2 : tie.Need-returns-2 Inv-loop μ-loop
 returns-2 c =
     let s = c .before .before .before .before in
     let l = c .before .before .loop in
-    rw (c .of .ensures) (read-all (s .args .row) (s .args .line .now) (l .numbers) (l .k) (l .inv) (s .args .next) (search needs))
+    rw (c .of .ensures) (read-all (s .args .row) (s .args .line .now) (l .numbers) (l .k) (l .inv) (s .args .next)
+    (search needs))
 
 pub read-fields-spec : {M : Type 1} → statement M
 read-fields-spec =

@@ -4,7 +4,7 @@ use mathlib.Core.Path.{_∙_}
 use native.Mathlib.Omega.{arith}
 use Rattle.frame.specs.Table.{fields, lineLength}
 use Rattle.frame.specs.Line.{readLine}
-use Rattle.frame.proofs.Parts.{tail-part}
+use Rattle.base.proofs.Parts.{tail-part}
 use Rattle.frame.proofs.Judging.{read-past}
 use Rattle.frame.proofs.Rows.{start-small}
 use borrow.Author.Needs.{needs}
@@ -12,7 +12,8 @@ use Rattle.frame.proofs.line.read_line.Statement.{statement}
 use Rattle.frame.proofs.line.read_line.Tie as tie
 
 returns : tie.Need-returns
-returns c = read-past (c .before .before .args .row) (c .before .before .args .at) (c .before .before .args .text .now) (c .if1 .taken)
+returns c = read-past (c .before .before .args .row) (c .before .before .args .at) (c .before .before .args .text .now)
+    (c .if1 .taken)
 
 digit-values-requires : tie.Need-digit-values-requires
 digit-values-requires c κs = search needs
@@ -42,7 +43,10 @@ returns-2 : tie.Need-returns-2
 unfolding readLine
 returns-2 c =
     let s = c .before .before .before .before .before .before .before in
-    c .line-at .ensures ∙ rw (tail-part (s .args .at) (s .args .text .now), c .before .before .before .length-of .ensures)
+    c .line-at .ensures ∙ rw (
+      tail-part (s .args .at) (s .args .text .now),
+      c .before .before .before .length-of .ensures,
+    )
 
 pub read-line-spec : {M : Type 1} → statement M
 read-line-spec =

@@ -23,7 +23,8 @@ cast-result-2 c = search needs
 sub-result : tie.Need-sub-result
 sub-result c =
     let h = c .before .half-of in
-    upper-fits (c .before .before .args .digits) _ (h .result) (h .ensures .0) (h .ensures .1) (c .if1 .left) (c .before .before .pre .2)
+    upper-fits (c .before .before .args .digits) _ (h .result) (h .ensures .0) (h .ensures .1) (c .if1 .left)
+    (c .before .before .pre .2)
 
 returns : tie.Need-returns
 returns c =
@@ -33,7 +34,8 @@ returns c =
 returns-2 : tie.Need-returns-2
 returns-2 c =
     let h = c .before .half-of in
-    upper-half (c .before .before .args .digits) _ (h .result) (h .ensures .0) (h .ensures .1) (c .if1 .left) (c .before .before .pre .2)
+    upper-half (c .before .before .args .digits) _ (h .result) (h .ensures .0) (h .ensures .1) (c .if1 .left)
+    (c .before .before .pre .2)
 
 pub signed-of-spec : {M : Type 1} → statement M
 signed-of-spec =

@@ -19,7 +19,8 @@ sub-below c =
 cast-below : tie.Need-cast-below
 cast-below c =
     let s = c .before .before in
-    cast-pos _ _ (below-is (s .args .signed) (s .fits .signed) (c .before .if1 .taken)) (omega (arith, s .fits .signed .sfits))
+    cast-pos _ _ (below-is (s .args .signed) (s .fits .signed) (c .before .if1 .taken))
+    (omega (arith, s .fits .signed .sfits))
 
 sub-result : tie.Need-sub-result
 sub-result c = search needs
@@ -35,20 +36,26 @@ add-result c = search needs
 cast-result : tie.Need-cast-result
 cast-result c =
     let s = c .before in
-    cast-pos _ _ (positive-is (s .args .signed) (s .fits .signed) (c .if1 .left)) (omega (arith, s .fits .signed .sfits))
+    cast-pos _ _ (positive-is (s .args .signed) (s .fits .signed) (c .if1 .left))
+    (omega (arith, s .fits .signed .sfits))
 
 returns : tie.Need-returns
 returns c =
     let s = c .before .before in
     let e = c .before .if1 .taken in
-    omega
-    (arith, ap natAbs (below-is (s .args .signed) (s .fits .signed) e), negative (s .args .signed) (s .fits .signed) e (s .args .digits), s .pre .2)
+    omega (
+      arith,
+      ap natAbs (below-is (s .args .signed) (s .fits .signed) e),
+      negative (s .args .signed) (s .fits .signed) e (s .args .digits),
+      s .pre .2,
+    )
 
 returns-2 : tie.Need-returns-2
 returns-2 c =
     let s = c .before in
     let e = c .if1 .left in
-    ap natAbs (positive-is (s .args .signed) (s .fits .signed) e) ∙ positive (s .args .signed) (s .fits .signed) e (s .args .digits)
+    ap natAbs (positive-is (s .args .signed) (s .fits .signed) e)
+    ∙ positive (s .args .signed) (s .fits .signed) e (s .args .digits)
 
 pub unsigned-of-spec : {M : Type 1} → statement M
 unsigned-of-spec =

@@ -6,6 +6,7 @@ use native.Mathlib.Omega.{arith}
 use mir.Syntax.{w64}
 use mir.Val.{Fits}
 use borrow.Author.Needs.{needs}
+use Rattle.frame.specs.Digits.{byteValues}
 use Rattle.frame.proofs.Rows.{laidOut, laid-entry, entry-small}
 use Rattle.frame.proofs.table.entry.Statement.{statement}
 use Rattle.frame.proofs.table.entry.Tie as tie
@@ -19,7 +20,7 @@ index-1-result c = search needs
 index-2-result : tie.Need-index-2-result
 index-2-result c = search needs
 
-byte-fits : (n m : ℕ) → n ≡ m → m < 256 → Fits w64 n
+byte-fits : (n m : ℕ) → n ≡ m → m < byteValues → Fits w64 n
 byte-fits n m e h = record { fits = omega arith }
 
 cast-result : tie.Need-cast-result

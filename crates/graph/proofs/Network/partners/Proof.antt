@@ -3,7 +3,7 @@ use mathlib.Core.Logic.{⊎-elim}
 use mathlib.Core.Path.{_≡_, refl, sym, ap, _∙_}
 use Prim.Native.Nat.{_-_, _≤_}
 use native.Mathlib.Omega.{arith}
-use Rattle.graph.specs.Fold.{pick}
+use Rattle.base.specs.Fold.{pick}
 use Rattle.graph.specs.Split.{isPartner, partners}
 use Rattle.graph.specs.State.{oneMore}
 use Rattle.graph.proofs.Picked.{found-below, found-more, found-same}
@@ -27,7 +27,8 @@ is-partner-requires c κs = omega arith
 with-requires : tie.Need-with-requires Inv-loop μ-loop
 with-requires c κs =
     let a = c .before .before .before .before .before .before in
-    rw (a .loop .inv .1) (omega (arith, found-below (isPartner (a .before .args .t1) (a .before .args .v)) (a .loop .e)))
+    rw (a .loop .inv .1)
+    (omega (arith, found-below (isPartner (a .before .args .t1) (a .before .args .v)) (a .loop .e)))
 
 add-e : tie.Need-add-e Inv-loop μ-loop
 add-e c = omega arith
@@ -41,7 +42,8 @@ loop-again c =
     let test = c .before .is-partner .ensures (a .before .args .t1) refl refl refl in (
       omega arith,
       ⊎-elim
-          (λ w. w .2 ∙ w .1 .ensures ∙ ap (λ q. oneMore q (a .loop .e)) (a .loop .inv .1) ∙ found-more _ _ (sym test ∙ w .0 .taken))
+          (λ w. w .2 ∙ w .1 .ensures ∙ ap (λ q. oneMore q (a .loop .e)) (a .loop .inv .1)
+          ∙ found-more _ _ (sym test ∙ w .0 .taken))
           (λ w. w .1 ∙ a .loop .inv .1 ∙ found-same _ _ (sym test ∙ w .0 .left))
           (c .if1 .came),
     )

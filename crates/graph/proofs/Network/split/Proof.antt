@@ -1,4 +1,5 @@
--- `graph::Network::split` meets its contract: the far ends are read before a column changes, and the cost difference fits.
+-- `graph::Network::split` meets its contract: the far ends are
+-- read before a column changes, and the cost difference fits.
 use mathlib.Core.Path.{refl}
 use borrow.Author.Needs.{needs}
 use Rattle.graph.specs.Split.{split}
@@ -72,7 +73,8 @@ element-copy-out-x-cost c = search needs
 
 sub-self : tie.Need-sub-self
 sub-self c =
-    let a = entry c .args in let p = entry c .pre in difference-fits (a .t1) (p .light) (a .z) (a .x) (p .z-edge) (p .x-edge)
+    let a = entry c .args in let p =
+    entry c .pre in difference-fits (a .t1) (p .light) (a .z) (a .x) (p .z-edge) (p .x-edge)
 
 mul-t39 : tie.Need-mul-t39
 mul-t39 c = search needs

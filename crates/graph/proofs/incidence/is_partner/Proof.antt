@@ -17,7 +17,8 @@ element-copy-out-if2 c = search needs
 
 returns-2 : tie.Need-returns-2
 unfolding isPartner touches
-returns-2 c g low high reserved = rw (low, reserved) (simp (eq-eqb _ _ (c .if2 .taken), ne-eqb _ _ (c .before .before .if1 .left)))
+returns-2 c g low high reserved =
+    rw (low, reserved) (simp (eq-eqb _ _ (c .if2 .taken), ne-eqb _ _ (c .before .before .if1 .left)))
 
 element-copy-out-result : tie.Need-element-copy-out-result
 element-copy-out-result c = search needs

@@ -1,14 +1,41 @@
 -- `thinning::checker::check_chain` meets its contract.
-use mathlib.Core.Path.{sym, _∙_, ap}
+use mathlib.Core.Path.{_≡_, refl, sym, _∙_, ap}
+use Prim.Native.Nat.{_-_}
 use borrow.Author.Needs.{needs}
-use Rattle.frame.specs.Answer.{replyOf, after}
-use Rattle.frame.proofs.Answers.{refuses}
+use Rattle.base.specs.Answer.{answer, replyOf, after}
+use Rattle.base.proofs.Answers.{refuses}
 use Rattle.loading.proofs.Reading.{loaded-zero, loaded-refused}
-use Rattle.thinning.specs.Services.{keptIn}
-use Rattle.thinning.proofs.Chains.{verdict-refused, verdict-zero}
-use Rattle.thinning.proofs.Accepting.{accept-numbered, accepted-running, passing-keeping, chain-network-refused, chain-refused, chain-kept}
+use Rattle.graph.specs.State.{noMarks}
+use Rattle.thinning.specs.Verdicts.{checkChain}
+use Rattle.thinning.specs.Services.{acceptNetwork, keptIn}
+use Rattle.thinning.proofs.Chains.{was-refused, was-kept}
+use Rattle.thinning.proofs.Meets.{chain-numbered}
+use Rattle.thinning.proofs.Accepting.{accept-numbered, accepted-running, passing-keeping, chain-network-refused}
+use Rattle.thinning.proofs.Accepting.{chain-refused, chain-kept}
 use Rattle.thinning.proofs.checker.check_chain.Statement.{statement}
 use Rattle.thinning.proofs.checker.check_chain.Tie as tie
+
+-- the entry, seen from where the network is accepted, and the network
+abbrev entry : tie.After-accept → tie.Start
+entry c = c .before .before .before .before
+
+accepted : (c : tie.Else1) → acceptNetwork (entry (c .before) .args .network .now)
+    ≡ answer (c .before .accept .result .network)
+accepted c = loaded-zero _ (accept-numbered _) (c .before .accept .ensures) (c .if1 .left)
+
+-- where the network is known to be accepted, seen from where the chain was checked
+abbrev known : tie.After-check-from → tie.Else1
+known c = c .before .before .before
+
+-- what a chain that is not refused keeps
+passed : (c : tie.Else2) → let f = c .before in let g = known f .before .accept .result .network in
+    checkChain (g .remaining - 2) g (entry (known f .before) .args .chain .now)
+    ≡ answer (f .check-from .last .1 .1 .1 .0)
+passed c =
+    let f = c .before in
+    let g = known f .before .accept .result .network in
+    was-kept _ (chain-numbered (g .remaining - 2) g _) (f .check-from .ensures .0) (c .if2 .left) noMarks
+    (f .check-from .ensures .1)
 
 accept-requires : tie.Need-accept-requires
 accept-requires c κs = search needs
@@ -16,30 +43,28 @@ accept-requires c κs = search needs
 returns : tie.Need-returns
 returns c =
     let q = c .before in
-    let a = q .before .before .before .before in
-    refuses _ (a .args .kept .now) _ (chain-network-refused (a .args .network .now) (a .args .chain .now) _ (loaded-refused _ (accept-numbered _) (q .accept .ensures) (c .if1 .taken)))
+    let a = entry q .args in
+    let refused = loaded-refused _ (accept-numbered _) (q .accept .ensures) (c .if1 .taken) in
+    refuses _ (a .kept .now) _ (chain-network-refused (a .network .now) (a .chain .now) _ refused)
 
 check-from-requires : tie.Need-check-from-requires
 check-from-requires c κs =
-    let q = c .before .before in
-    accepted-running (q .before .before .before .before .args .network .now) _ (loaded-zero _ (accept-numbered _) (q .accept .ensures) (c .before .if1 .left))
+    let e = c .before .before in
+    (accepted-running (entry (e .before) .args .network .now) _ (accepted e), refl)
 
 returns-2 : tie.Need-returns-2
 returns-2 c =
     let f = c .before in
-    let q = f .before .before .before in
-    let a = q .before .before .before .before in
-    refuses _ (a .args .kept .now) _
-    (chain-refused (a .args .network .now) (a .args .chain .now) _ (loaded-zero _ (accept-numbered _) (q .accept .ensures) (f .before .before .if1 .left)) _
-    (sym (f .check-from .ensures) ∙ verdict-refused _ _ (c .if2 .taken)))
+    let e = known f in
+    let a = entry (e .before) .args in
+    let refused = was-refused _ (f .check-from .ensures .0) (c .if2 .taken) in
+    refuses _ (a .kept .now) _ (chain-refused (a .network .now) (a .chain .now) _ (accepted e) _ refused)
 
 put-kept-requires : tie.Need-put-kept-requires
 put-kept-requires c κs =
-    let f = c .before .before .before in
-    let q = f .before .before .before in
-    let a = q .before .before .before .before in
-    passing-keeping (accepted-running (a .args .network .now) _ (loaded-zero _ (accept-numbered _) (q .accept .ensures) (f .before .before .if1 .left)))
-    (a .args .chain .now) _ (sym (f .check-from .ensures) ∙ verdict-zero _ _ (c .before .before .if2 .left))
+    let e = known (c .before .before) in
+    let a = entry (e .before) .args in
+    passing-keeping (accepted-running (a .network .now) _ (accepted e)) (a .chain .now) _ (passed (c .before))
 
 same-length : tie.Need-same-length
 same-length c = search needs
@@ -48,12 +73,13 @@ returns-3 : tie.Need-returns-3
 unfolding keptIn
 returns-3 c =
     let p = c .before .before in
-    let f = p .before .before .before .before in
-    let q = f .before .before .before in
-    let a = q .before .before .before .before in
-    let e = chain-kept (a .args .network .now) (a .args .chain .now) _ (loaded-zero _ (accept-numbered _) (q .accept .ensures) (f .before .before .if1 .left)) _
-    (sym (f .check-from .ensures) ∙ verdict-zero _ _ (p .before .before .before .if2 .left)) in
-    (p .put-kept .ensures .0 ∙ ap (λ w. replyOf w (a .args .kept .now)) (sym e), p .put-kept .ensures .1 ∙ ap (λ w. after w (a .args .kept .now)) (sym e))
+    let k = p .before .before in
+    let e = known (k .before) in
+    let a = entry (e .before) .args in
+    let kept = chain-kept (a .network .now) (a .chain .now) _ (accepted e) _ (passed k) in (
+      p .put-kept .ensures .0 ∙ ap (λ w. replyOf w (a .kept .now)) (sym kept),
+      p .put-kept .ensures .1 ∙ ap (λ w. after w (a .kept .now)) (sym kept),
+    )
 
 pub check-chain-spec : {M : Type 1} → statement M
 check-chain-spec =

@@ -1,9 +1,8 @@
 -- `thinning::network::accept` meets its contract.
 use mathlib.Core.Path.{_≡_, sym, _∙_, ap}
 use borrow.Author.Needs.{needs}
-use Rattle.frame.specs.Answer.{answer}
-use Rattle.texts.specs.Limits.{unless}
-use Rattle.texts.proofs.NetworksEdges.{unless-refused, unless-next}
+use Rattle.base.specs.Answer.{answer, unless}
+use Rattle.base.proofs.Answers.{unless-refused, unless-next}
 use Rattle.loading.specs.Loading.{loadNetwork, loadedOf}
 use Rattle.loading.proofs.Reading.{load-numbered, loaded-known, loaded-zero, loaded-refused}
 use Rattle.thinning.specs.Services.{acceptNetwork}
@@ -12,12 +11,14 @@ use Rattle.thinning.proofs.network.accept.Statement.{statement}
 use Rattle.thinning.proofs.network.accept.Tie as tie
 
 -- the network that was loaded
-loaded : (c : tie.Else1) → loadNetwork (c .before .before .before .args .text .now) ≡ answer (c .before .load .result .network)
+loaded : (c : tie.Else1) → loadNetwork (c .before .before .before .args .text .now)
+    ≡ answer (c .before .load .result .network)
 loaded c = loaded-zero _ (load-numbered _) (c .before .load .ensures) (c .if1 .left)
 
 -- the answer by its refusal
 judged : (c : tie.After-network-refusal) → let l = c .before .before .before in
-    acceptNetwork (l .before .before .args .text .now) ≡ unless (c .network-refusal .result) (answer (l .load .result .network))
+    acceptNetwork (l .before .before .args .text .now)
+    ≡ unless (c .network-refusal .result) (answer (l .load .result .network))
 judged c = accept-judged _ _ _ (loaded (c .before .before)) (c .network-refusal .ensures)
 
 load-requires : tie.Need-load-requires
@@ -46,7 +47,8 @@ returns-2 c =
 returns-3 : tie.Need-returns-3
 returns-3 c =
     let n = c .before in
-    n .before .before .before .load .ensures ∙ ap loadedOf (loaded (n .before .before) ∙ sym (judged n ∙ unless-next _ _ (c .if2 .left)))
+    n .before .before .before .load .ensures
+    ∙ ap loadedOf (loaded (n .before .before) ∙ sym (judged n ∙ unless-next _ _ (c .if2 .left)))
 
 pub accept-spec : {M : Type 1} → statement M
 accept-spec =

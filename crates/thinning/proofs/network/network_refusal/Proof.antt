@@ -10,7 +10,8 @@ four-each-requires : tie.Need-four-each-requires
 four-each-requires c κs = search needs
 
 returns : tie.Need-returns
-returns c = degree-refused (c .before .before .args .network) (sym (c .before .four-each .ensures) ∙ not-true _ (c .if1 .taken))
+returns c =
+    degree-refused (c .before .before .args .network) (sym (c .before .four-each .ensures) ∙ not-true _ (c .if1 .taken))
 
 every-cut-four-requires : tie.Need-every-cut-four-requires
 every-cut-four-requires c κs = search needs

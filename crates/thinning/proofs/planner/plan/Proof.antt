@@ -1,13 +1,36 @@
 -- `thinning::planner::plan` meets its contract.
-use mathlib.Core.Path.{refl, _∙_, ap}
+use mathlib.Core.Path.{_≡_, _∙_, ap}
+use mathlib.Core.List.{List}
+use Prim.Native.Nat.{ℕ, _-_}
+use native.Mathlib.Omega.{arith}
+use lib.ListN.{replicate}
 use borrow.Author.Needs.{needs}
-use Rattle.frame.specs.Answer.{filled}
+use Rattle.base.specs.Answer.{answer, filled}
+use Rattle.base.specs.Limits.{fewestVertices, vertexLimit}
 use Rattle.loading.proofs.Reading.{loaded-zero, loaded-refused}
-use Rattle.thinning.specs.Services.{plannedOf}
+use Rattle.rules.specs.Plans.{StepRoom}
+use Rattle.thinning.specs.Services.{acceptNetwork, plannedOf}
 use Rattle.thinning.proofs.Accepting.{accept-numbered, accepted-running, remaining-few}
-use Rattle.thinning.proofs.Handing.{chain-fits, handed-refused, plan-refused, plan-given, plan-ready}
+use Rattle.thinning.proofs.Handing.{handed-refused, plan-refused, plan-given, plan-ready}
 use Rattle.thinning.proofs.planner.plan.Statement.{statement}
 use Rattle.thinning.proofs.planner.plan.Tie as tie
+
+-- the entry, seen from where the network is accepted, and the network
+abbrev entry : tie.After-accept → tie.Start
+entry c = c .before .before .before .before
+
+accepted : (c : tie.Else1) → acceptNetwork (entry (c .before) .args .network .now)
+    ≡ answer (c .before .accept .result .network)
+accepted c = loaded-zero _ (accept-numbered _) (c .before .accept .ensures) (c .if1 .left)
+
+-- the columns have room for its steps
+abbrev column : List ℕ
+column = replicate (vertexLimit - fewestVertices) 0
+
+room : (c : tie.Else1) → StepRoom (c .before .accept .result .network .remaining - 2) column column column
+room c =
+    let few = remaining-few (entry (c .before) .args .network .now) _ (accepted c) in
+    record { v-room = omega arith; x-room = omega arith; y-room = omega arith }
 
 accept-requires : tie.Need-accept-requires
 accept-requires c κs = search needs
@@ -15,28 +38,46 @@ accept-requires c κs = search needs
 returns : tie.Need-returns
 returns c =
     let q = c .before in
-    let a = q .before .before .before .before in
-    handed-refused _ (a .args .chain .now) (a .args .kept .now) _ (plan-refused (a .args .network .now) (a .args .chain .now) (a .args .kept .now) _ (loaded-refused _ (accept-numbered _) (q .accept .ensures) (c .if1 .taken)))
+    let a = entry q .args in
+    let refused = loaded-refused _ (accept-numbered _) (q .accept .ensures) (c .if1 .taken) in
+    handed-refused _ (a .chain .now) (a .kept .now) _
+    (plan-refused (a .network .now) (a .chain .now) (a .kept .now) _ refused)
 
-slice-aggregate-plan-into : tie.Need-slice-aggregate-plan-into
-slice-aggregate-plan-into c = search needs
+slice-aggregate-plan-steps : tie.Need-slice-aggregate-plan-steps
+slice-aggregate-plan-steps c = search needs
 
-plan-into-requires : tie.Need-plan-into-requires
-plan-into-requires c κs =
-    let q = c .before .before .before in
-    let run = accepted-running (q .before .before .before .before .args .network .now) _ (loaded-zero _ (accept-numbered _) (q .accept .ensures) (c .before .before .if1 .left)) in
-    (run, chain-fits _ (remaining-few (q .before .before .before .before .args .network .now) _ (loaded-zero _ (accept-numbered _) (q .accept .ensures) (c .before .before .if1 .left))))
+slice-aggregate-plan-steps-2 : tie.Need-slice-aggregate-plan-steps-2
+slice-aggregate-plan-steps-2 c = search needs
+
+slice-aggregate-plan-steps-3 : tie.Need-slice-aggregate-plan-steps-3
+slice-aggregate-plan-steps-3 c = search needs
+
+plan-steps-requires : tie.Need-plan-steps-requires
+plan-steps-requires c κs =
+    let e = c .before .before .before .before in
+    (accepted-running (entry (e .before) .args .network .now) _ (accepted e), room e)
 
 slice-aggregate-hand-over : tie.Need-slice-aggregate-hand-over
 slice-aggregate-hand-over c = search needs
 
+slice-aggregate-hand-over-2 : tie.Need-slice-aggregate-hand-over-2
+slice-aggregate-hand-over-2 c = search needs
+
+slice-aggregate-hand-over-3 : tie.Need-slice-aggregate-hand-over-3
+slice-aggregate-hand-over-3 c = search needs
+
+-- where the network is known to be accepted, seen from where it was planned
+abbrev known : tie.After-plan-steps → tie.Else1
+known c = c .before .before .before .before .before
+
 hand-over-requires : tie.Need-hand-over-requires
 hand-over-requires c κs =
-    let p = c .before .before .before .before in
-    let q = p .before .before .before .before in
-    let a = q .before .before .before .before in
-    plan-ready (a .args .network .now) (a .args .chain .now) (a .args .kept .now) _ (loaded-zero _ (accept-numbered _) (q .accept .ensures) (p .before .before .before .if1 .left))
-    _ (p .plan-into .ensures .0) _ _ refl (p .plan-into .ensures .1)
+    let p = c .before .before .before .before .before .before .before .before in
+    let e = known p in
+    let a = entry (e .before) .args in
+    let w = p .plan-steps .ensures in
+    plan-ready (a .network .now) (a .chain .now) (a .kept .now) _ (accepted e) _ (w .0) _ _ _ _ _ _
+    (room e) (w .1 .0) (w .1 .1 .0) (w .1 .1 .1)
 
 same-length : tie.Need-same-length
 same-length c = search needs
@@ -47,14 +88,16 @@ same-length-2 c = search needs
 returns-2 : tie.Need-returns-2
 returns-2 c =
     let h = c .before .before .before .before in
-    let p = h .before .before .before .before .before in
-    let q = p .before .before .before .before in
-    let a = q .before .before .before .before in
-    let e = plan-given (a .args .network .now) (a .args .chain .now) (a .args .kept .now) _ (loaded-zero _ (accept-numbered _) (q .accept .ensures) (p .before .before .before .if1 .left)) _ (p .plan-into .ensures .0) in (
-      h .hand-over .ensures .0 ∙ ap plannedOf e,
+    let p = h .before .before .before .before .before .before .before .before .before in
+    let e = known p in
+    let a = entry (e .before) .args in
+    let given =
+    plan-given (a .network .now) (a .chain .now) (a .kept .now) _ (accepted e) _
+    (ap (λ p. p .kept .marks) (p .plan-steps .ensures .0)) in (
+      h .hand-over .ensures .0 ∙ ap plannedOf given,
       (
-        h .hand-over .ensures .1 .0 ∙ ap (λ w. filled (λ t. t .chain) w (a .args .chain .now)) e,
-        h .hand-over .ensures .1 .1 ∙ ap (λ w. filled (λ t. t .kept) w (a .args .kept .now)) e,
+        h .hand-over .ensures .1 .0 ∙ ap (λ w. filled (λ t. t .chain) w (a .chain .now)) given,
+        h .hand-over .ensures .1 .1 ∙ ap (λ w. filled (λ t. t .kept) w (a .kept .now)) given,
       ),
     )
 
@@ -64,9 +107,13 @@ plan-spec =
     (tie.spec
     accept-requires
     returns
-    slice-aggregate-plan-into
-    plan-into-requires
+    slice-aggregate-plan-steps
+    slice-aggregate-plan-steps-2
+    slice-aggregate-plan-steps-3
+    plan-steps-requires
     slice-aggregate-hand-over
+    slice-aggregate-hand-over-2
+    slice-aggregate-hand-over-3
     hand-over-requires
     same-length
     same-length-2

@@ -17,7 +17,8 @@ unsigned-of-requires : tie.Need-unsigned-of-requires
 unfolding digitsOf bytesOf padded
 unsigned-of-requires c κs =
     let l = c .struct-told .given .0 .1 in
-    rw (c .before .digits-of .ensures, toZ-ofZ (record { sfits = l })) (lit< tt, digits-narrow COSTS (lit< tt) 0 (lit< tt), omega arith)
+    rw (c .before .digits-of .ensures, toZ-ofZ (record { sfits = l }))
+    (lit< tt, digits-narrow COSTS (lit< tt) 0 (lit< tt), omega arith)
 
 digits-of-requires-2 : tie.Need-digits-of-requires-2
 digits-of-requires-2 c κs = search needs
@@ -26,7 +27,8 @@ unsigned-of-requires-2 : tie.Need-unsigned-of-requires-2
 unfolding digitsOf bytesOf padded
 unsigned-of-requires-2 c κs =
     let l = c .struct-told2 .given .1 .0 .1 in
-    rw (c .before .digits-of2 .ensures, toZ-ofZ (record { sfits = l })) (lit< tt, digits-narrow COSTS (lit< tt) 1 (lit< tt), omega arith)
+    rw (c .before .digits-of2 .ensures, toZ-ofZ (record { sfits = l }))
+    (lit< tt, digits-narrow COSTS (lit< tt) 1 (lit< tt), omega arith)
 
 returns : tie.Need-returns
 unfolding keptDigits unreservedDigits

@@ -17,7 +17,8 @@ signed-of-requires : tie.Need-signed-of-requires
 unfolding digitsOf bytesOf padded
 signed-of-requires c κs =
     let s = c .before in
-    rw (c .digits-of .ensures) (lit< tt, digits-narrow COSTS (lit< tt) 0 (lit< tt), fits-at COSTS (s .args .f) (s .pre) 0 (lit< tt))
+    rw (c .digits-of .ensures)
+    (lit< tt, digits-narrow COSTS (lit< tt) 0 (lit< tt), fits-at COSTS (s .args .f) (s .pre) 0 (lit< tt))
 
 digits-of-requires-2 : tie.Need-digits-of-requires-2
 digits-of-requires-2 c κs = search needs
@@ -26,7 +27,8 @@ signed-of-requires-2 : tie.Need-signed-of-requires-2
 unfolding digitsOf bytesOf padded
 signed-of-requires-2 c κs =
     let s = c .before .before .before in
-    rw (c .digits-of2 .ensures) (lit< tt, digits-narrow COSTS (lit< tt) 1 (lit< tt), fits-at COSTS (s .args .f) (s .pre) 1 (lit< tt))
+    rw (c .digits-of2 .ensures)
+    (lit< tt, digits-narrow COSTS (lit< tt) 1 (lit< tt), fits-at COSTS (s .args .f) (s .pre) 1 (lit< tt))
 
 returns : tie.Need-returns
 unfolding keptDigits unreservedDigits

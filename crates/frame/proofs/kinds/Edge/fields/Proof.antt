@@ -21,8 +21,11 @@ unsigned-of-requires c κs =
 returns : tie.Need-returns
 unfolding costDigits
 returns c =
-    rw
-    (c .unsigned-of .ensures, c .before .before .digits-of .ensures, toZ-ofZ (record { sfits = c .before .struct-told .given .1 .1 .1 .0 .1 }))
+    rw (
+      c .unsigned-of .ensures,
+      c .before .before .digits-of .ensures,
+      toZ-ofZ (record { sfits = c .before .struct-told .given .1 .1 .1 .0 .1 }),
+    )
 
 pub fields-spec : {M : Type 1} → statement M
 fields-spec = tie.close (tie.spec digits-of-requires unsigned-of-requires returns)

@@ -16,7 +16,11 @@ digits-of-requires c κs = search needs
 signed-of-requires : tie.Need-signed-of-requires
 unfolding digitsOf bytesOf padded
 signed-of-requires c κs =
-    rw (c .digits-of .ensures) (lit< tt, digits-narrow EDGE (lit< tt) 3 (lit< tt), fits-at EDGE (c .before .args .f) (c .before .pre) 3 (lit< tt))
+    rw (c .digits-of .ensures) (
+      lit< tt,
+      digits-narrow EDGE (lit< tt) 3 (lit< tt),
+      fits-at EDGE (c .before .args .f) (c .before .pre) 3 (lit< tt),
+    )
 
 returns : tie.Need-returns
 unfolding costDigits

@@ -17,7 +17,11 @@ returns-3 : tie.Need-returns-3
 returns-3 c = rw (c .if3 .taken)
 
 returns-4 : tie.Need-returns-4
-returns-4 c = simp (ne-eqb _ _ (c .before .before .if1 .left), ne-eqb _ _ (c .before .if2 .left), ne-eqb _ _ (c .if3 .left))
+returns-4 c = simp (
+  ne-eqb _ _ (c .before .before .if1 .left),
+  ne-eqb _ _ (c .before .if2 .left),
+  ne-eqb _ _ (c .if3 .left),
+)
 
 pub with-spec : {M : Type 1} → statement M
 with-spec = tie.close (tie.spec add-self returns returns-2 returns-3 returns-4)

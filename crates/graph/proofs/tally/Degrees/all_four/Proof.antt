@@ -6,8 +6,8 @@ use native.Mathlib.Omega.{arith}
 use borrow.Author.Tests.{eq-eqb, ne-eqb}
 use lib.Dec.{eqb}
 use lib.ListN.{getD}
-use Rattle.graph.specs.Fold.{fold, each}
-use Rattle.graph.proofs.Sums.{each-more, each-false}
+use Rattle.base.specs.Fold.{fold, each}
+use Rattle.base.proofs.Sums.{each-more, each-false}
 use Rattle.graph.proofs.tally.Degrees.all_four.Statement.{statement}
 use Rattle.graph.proofs.tally.Degrees.all_four.Tie as tie
 
@@ -41,7 +41,8 @@ loop-again c = (omega arith, each-more _ _ (c .before .before .before .loop .inv
 
 returns-2 : tie.Need-returns-2 Inv-loop μ-loop
 returns-2 c =
-    let e : c .before .loop .v ≡ c .before .before .args .vertices = omega arith in sym (rw e at (c .before .loop .inv .1))
+    let e : c .before .loop .v ≡ c .before .before .args .vertices =
+    omega arith in sym (rw e at (c .before .loop .inv .1))
 
 pub all-four-spec : {M : Type 1} → statement M
 all-four-spec =

@@ -1,0 +1,12 @@
+pub mod Bools
+pub mod Sums
+pub mod Integers
+pub mod Parts
+pub mod Filling
+pub mod Held
+pub mod Taking
+pub mod Words
+pub mod LimitLaws
+pub mod Answers
+pub mod Numbered
+pub mod Exports

@@ -1,0 +1,14 @@
+-- How many bytes the longest texts have. Each number is tied to the table of frames by a law of the crate of its text.
+use Prim.Native.Nat.{ℕ}
+
+-- a network text (law `longest-network`)
+abbrev pub longestNetwork : ℕ
+longestNetwork = 11787
+
+-- a chain text (law `longest-chain`)
+abbrev pub longestChain : ℕ
+longestChain = 3817
+
+-- a kept text (law `longest-kept`)
+abbrev pub longestKept : ℕ
+longestKept = 3619

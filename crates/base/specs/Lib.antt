@@ -1,0 +1,6 @@
+pub mod Refusals
+pub mod Limits
+pub mod Lengths
+pub mod Fold
+pub mod Answer
+pub mod Words

@@ -1,0 +1,34 @@
+// What every crate stands on: replies, refusals by their numbers, the limits of a network and of its texts, columns.
+mod column;
+mod lengths;
+mod limits;
+mod refusals;
+mod reply;
+
+pub use column::copy;
+pub use column::copy_costs;
+pub use lengths::LONGEST_CHAIN;
+pub use lengths::LONGEST_KEPT;
+pub use lengths::LONGEST_NETWORK;
+pub use limits::COST_LIMIT;
+pub use limits::EDGE_LIMIT;
+pub use limits::FEWEST_VERTICES;
+pub use limits::STEP_LIMIT;
+pub use limits::VERTEX_LIMIT;
+pub use limits::cost_ok;
+pub use limits::vertices_ok;
+pub use refusals::CHEAPER;
+pub use refusals::COST;
+pub use refusals::CUT;
+pub use refusals::DEGREE;
+pub use refusals::ENDS;
+pub use refusals::FORM;
+pub use refusals::NO_END;
+pub use refusals::NO_PARTNER;
+pub use refusals::NOT_ADMISSIBLE;
+pub use refusals::NOT_DEAREST;
+pub use refusals::RESERVED;
+pub use refusals::SHORT;
+pub use refusals::UNLISTED;
+pub use refusals::VERTICES;
+pub use reply::Reply;

@@ -1,0 +1,97 @@
+-- What is known while the steps of a chain text are read into columns, one after the other.
+-- Assumes nothing.
+use mathlib.Core.Path.{_≡_, refl, sym, _∙_}
+use mathlib.Core.List.{List, [], _∷_, _++_, map, map-append}
+use Prim.Native.Nat.{ℕ, suc, _+_, _-_, _≤_, _<_}
+use native.Mathlib.Omega.{arith}
+use native.Mathlib.Nat.{sub-zero}
+use lib.ListN.{length, drop, set, length-append, length-map}
+use lib.Seq.{drop-drop}
+use Rattle.base.specs.Answer.{refused, answer, refusalOf}
+use Rattle.base.specs.Refusals.{FORM}
+use Rattle.base.proofs.Held.{Storing, storing-none, storing-next}
+use Rattle.base.proofs.Taking.{first, behind, behind-none, behind-next, behind-refused, behind-all}
+use Rattle.frame.specs.Table.{STEP}
+use Rattle.frame.specs.Line.{readLine}
+use Rattle.frame.specs.Kinds.{stepOf}
+use Rattle.frame.specs.declared.line.Fields.{Fields}
+use Rattle.frame.specs.declared.kinds.Step.{Step}
+use Rattle.frame.proofs.Runs.{Next, none-read}
+use Rattle.chain_text.specs.Text.{stepsIn}
+use Rattle.chain_text.specs.Columns.{Columns, StepsRead}
+
+-- the first line of what is left: a step, or none
+module _ (k : ℕ) (text : List ℕ) (at : ℕ) where
+  left-next : (f : Fields) (next : ℕ) → Next STEP at text f next
+      → stepsIn (suc k) (drop at text) ≡ first (stepOf f) (stepsIn k (drop next text))
+  unfolding stepsIn first
+  left-next f next e = rw (e .is, e .fields, e .place, drop-drop)
+
+  left-broken : refused FORM ≡ readLine STEP text at → stepsIn (suc k) (drop at text) ≡ refused FORM
+  unfolding stepsIn
+  left-broken e = rw (none-read STEP at text e)
+
+-- i of k steps are taken: they and those that are left make all of them, and the columns start with them
+pub record Reading (k : ℕ) (text v₀ x₀ y₀ v x y : List ℕ) (at i : ℕ) : Type 0 where
+  pub steps : List Step
+  pub count : length steps ≡ i
+  pub within : i ≤ k
+  pub all : behind steps (stepsIn (k - i) (drop at text)) ≡ stepsIn k text
+  pub in-v : Storing (map (λ s. s .v) steps) v₀ v
+  pub in-x : Storing (map (λ s. s .x) steps) x₀ x
+  pub in-y : Storing (map (λ s. s .y) steps) y₀ y
+
+pub reading-none : {k : ℕ} {text v x y : List ℕ} → Reading k text v x y v x y 0 0
+reading-none {k} {text} =
+    record {
+      steps = [];
+      count = refl;
+      within = omega arith;
+      all = rw sub-zero (behind-none (stepsIn k text));
+      in-v = storing-none;
+      in-x = storing-none;
+      in-y = storing-none;
+    }
+
+module _ {k : ℕ} {text v₀ x₀ y₀ v x y : List ℕ} {at i : ℕ} (r : Reading k text v₀ x₀ y₀ v x y at i) where
+  -- a step is due
+  module _ (h : i < k) where
+    one-due : k - i ≡ suc (k - (i + 1))
+    one-due = omega arith
+
+    pub reading-broken : refused FORM ≡ readLine STEP text at → StepsRead (stepsIn k text) v₀ x₀ y₀ v x y FORM
+    unfolding refusalOf
+    reading-broken e =
+        let whole : refused FORM ≡ stepsIn k text =
+        sym (behind-refused (r .steps) FORM) ∙ rw (one-due, left-broken (k - (i + 1)) text at e) at (r .all) in
+        rw (← whole) (record { reply = refl; vs = r .in-v .size; xs = r .in-x .size; ys = r .in-y .size })
+
+    -- and is there: each column takes its part of it
+    part-next : (part : Step → ℕ) (s : Step) {old column : List ℕ} → i < length old
+        → Storing (map part (r .steps)) old column
+        → Storing (map part (r .steps ++ (s ∷ []))) old (set column i (part s))
+    part-next part s l w = rw map-append (storing-next w (length-map (r .steps) part ∙ r .count) l (part s))
+
+    pub reading-next : Columns k v₀ x₀ y₀ → {f : Fields} {next : ℕ} → Next STEP at text f next
+        → {s : Step} → s ≡ stepOf f
+        → Reading k text v₀ x₀ y₀ (set v i (s .v)) (set x i (s .x)) (set y i (s .y)) next (i + 1)
+    reading-next room {f} {next} e {s} q =
+        record {
+          steps = r .steps ++ (s ∷ []);
+          count = length-append (r .steps) (s ∷ []) ∙ omega (arith, r .count);
+          within = omega arith;
+          all =
+              sym (behind-next (r .steps) s (stepsIn (k - (i + 1)) (drop next text)))
+              ∙ rw q (rw (one-due, left-next (k - (i + 1)) text at f next e) at (r .all));
+          in-v = part-next (λ s. s .v) s (omega (arith, room .v-room)) (r .in-v);
+          in-x = part-next (λ s. s .x) s (omega (arith, room .x-room)) (r .in-x);
+          in-y = part-next (λ s. s .y) s (omega (arith, room .y-room)) (r .in-y);
+        }
+
+  -- all are taken
+  pub reading-all : k ≤ i → StepsRead (stepsIn k text) v₀ x₀ y₀ v x y 0
+  unfolding refusalOf stepsIn
+  reading-all h =
+      let none-due : k - i ≡ 0 = omega arith in
+      let whole : answer (r .steps) ≡ stepsIn k text = sym (behind-all (r .steps)) ∙ rw none-due at (r .all) in
+      rw (← whole) (record { reply = refl; vs = r .in-v .holds; xs = r .in-x .holds; ys = r .in-y .holds })

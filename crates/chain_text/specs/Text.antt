@@ -1,0 +1,104 @@
+-- Chain texts: what a text means for n vertices, and the text of a meaning.
+use mathlib.Core.Path.{_≡_}
+use mathlib.Core.Bool.{Bool, cond, _&&_}
+use mathlib.Core.List.{List, [], _∷_, _++_, map}
+use Prim.Native.Nat.{ℕ, zero, suc, _+_, _*_, _-_}
+use lib.Dec.{leb, eqb}
+use lib.ListN.{length, drop}
+use Rattle.base.specs.Answer.{Answer, refused, answer, andThen, given, filled, roomIn}
+use Rattle.base.specs.Limits.{verticesOk, fewestVertices}
+use Rattle.base.specs.Refusals.{FORM, VERTICES}
+use Rattle.frame.specs.Table.{STEP, DROPPED, lineLength}
+use Rattle.frame.specs.Line.{isLine, fieldsOf, lineOf}
+use Rattle.frame.specs.Kinds.{stepOf, ofStep, droppedOf, ofDropped}
+use Rattle.frame.specs.declared.kinds.Step.{Step}
+use Rattle.chain_text.specs.declared.chain.ReadChain.{ReadChain}
+use Rattle.chain_text.specs.declared.chain.ReadChain.the-variants.{Refused, Read}
+
+-- the meaning of a chain text: the steps, and the edge that the ending drops
+pub record Meaning : Type 0 where
+  pub steps : List Step
+  pub dropped : ℕ
+
+-- its steps in columns
+abbrev pub vOf : Meaning → List ℕ
+vOf m = map (λ s. s .v) (m .steps)
+
+abbrev pub xOf : Meaning → List ℕ
+xOf m = map (λ s. s .x) (m .steps)
+
+abbrev pub yOf : Meaning → List ℕ
+yOf m = map (λ s. s .y) (m .steps)
+
+-- ── reading ──
+
+-- k steps at the start of a text, each directly behind the one before it
+unfoldable pub stepsIn : ℕ → List ℕ → Answer (List Step)
+stepsIn zero t = answer []
+stepsIn (suc k) t =
+    let later = stepsIn k (drop (lineLength STEP) t) in
+    cond (isLine STEP t) (andThen later (λ ss. answer (stepOf (fieldsOf STEP t) ∷ ss))) (refused FORM)
+
+-- the edge that an ending drops: its line, with nothing behind it
+unfoldable pub endingIn : List ℕ → Answer ℕ
+endingIn t =
+    let alone = isLine DROPPED t && leb (length t) (lineLength DROPPED) in
+    cond alone (answer (droppedOf (fieldsOf DROPPED t) .edge)) (refused FORM)
+
+-- k steps, and the ending behind them
+unfoldable pub chainIn : ℕ → List ℕ → Answer Meaning
+chainIn k t =
+    let ending = endingIn (drop (k * lineLength STEP) t) in
+    andThen (stepsIn k t) (λ ss. andThen ending (λ d. answer (record { steps = ss; dropped = d })))
+
+-- the meaning of a chain text, or its first refusal: 2 for n, 1 for the form
+unfoldable pub readChain : ℕ → List ℕ → Answer Meaning
+readChain n t = cond (verticesOk n) (chainIn (n - fewestVertices) t) (refused VERTICES)
+
+-- the reader's reply
+unfoldable pub readReply : Answer Meaning → ReadChain
+readReply (refused k) = Refused k
+readReply (answer m) = Read (length (m .steps)) (m .dropped)
+
+-- whether three columns have room for the steps
+unfoldable pub roomFor : List ℕ → List ℕ → List ℕ → Meaning → Bool
+roomFor v x y m = roomIn v (vOf m) && (roomIn x (xOf m) && roomIn y (yOf m))
+
+-- the reader's answer once its columns are known: refused where one of them has no room
+unfoldable pub readGiven : ℕ → List ℕ → List ℕ → List ℕ → List ℕ → Answer Meaning
+readGiven n t v x y = given (roomFor v x y) (readChain n t)
+
+-- what reading a text into three columns comes to: all of them are written, or none
+pub record ReadInto (n : ℕ) (t v x y : List ℕ) (reply : ReadChain) (v′ x′ y′ : List ℕ) : Type 0 where
+  pub replies : reply ≡ readReply (readGiven n t v x y)
+  pub fills-v : v′ ≡ filled vOf (readGiven n t v x y) v
+  pub fills-x : x′ ≡ filled xOf (readGiven n t v x y) x
+  pub fills-y : y′ ≡ filled yOf (readGiven n t v x y) y
+
+-- ── writing ──
+
+-- the steps of a chain and then its ending, each line directly behind the one before it
+unfoldable pub chainText : List Step → ℕ → List ℕ
+chainText [] d = lineOf DROPPED (ofDropped (record { edge = d }))
+chainText (s ∷ ss) d = lineOf STEP (ofStep s) ++ chainText ss d
+
+-- how many bytes the text of k steps and an ending has
+unfoldable pub chainLength : ℕ → ℕ
+chainLength k = k * lineLength STEP + lineLength DROPPED
+
+-- the steps of columns, as far as each column has one
+unfoldable pub stepsOf : List ℕ → List ℕ → List ℕ → List Step
+stepsOf (v ∷ vs) (x ∷ xs) (y ∷ ys) = record { v = v; x = x; y = y } ∷ stepsOf vs xs ys
+stepsOf [] xs ys = []
+stepsOf (v ∷ vs) [] ys = []
+stepsOf (v ∷ vs) (x ∷ xs) [] = []
+
+-- whether three columns have k steps: none is missing in any of them, and none is left over
+unfoldable pub evenly : ℕ → List ℕ → List ℕ → List ℕ → Bool
+evenly k vs xs ys = eqb (length vs) k && (eqb (length xs) k && eqb (length ys) k)
+
+-- the text of a meaning in columns, or the refusal that its text would meet
+unfoldable pub writeChain : ℕ → List ℕ → List ℕ → List ℕ → ℕ → Answer (List ℕ)
+writeChain n vs xs ys d =
+    let counted = evenly (n - fewestVertices) vs xs ys in
+    cond (verticesOk n) (cond counted (answer (chainText (stepsOf vs xs ys) d)) (refused FORM)) (refused VERTICES)

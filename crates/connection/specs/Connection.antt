@@ -1,0 +1,34 @@
+-- Connection by a set of edges (document 01: joined): what listed edges join to a start vertex.
+use mathlib.Core.Bool.{Bool, _&&_, _||_}
+use mathlib.Core.List.{List}
+use Prim.Native.Nat.{ℕ, zero, suc}
+use lib.Dec.{eqb}
+use Rattle.base.specs.Fold.{sum, each, any, bit, tabulate}
+use Rattle.graph.specs.Network.{lowEnd, highEnd, kept}
+use Rattle.graph.specs.Cut.{Side, sideOf}
+use Rattle.graph.specs.declared.Network.{Network}
+
+-- an edge joins v to a vertex of R
+unfoldable pub leads : Network → Side → ℕ → ℕ → Bool
+leads g R v e = eqb (lowEnd g e) v && R (highEnd g e) || eqb (highEnd g e) v && R (lowEnd g e)
+
+-- R, and what a listed edge joins to it
+unfoldable pub grown : Network → List Bool → Side → Side
+grown g K R v = R v || any (g .edges) (λ e. kept K e && leads g R v e)
+
+-- the vertices that at most k listed edges in a row join to the start vertex
+unfoldable pub within : Network → List Bool → ℕ → ℕ → List Bool
+within g K start zero = tabulate (g .vertices) (λ v. eqb v start)
+within g K start (suc k) = tabulate (g .vertices) (grown g K (sideOf (within g K start k)))
+
+-- the vertices that the listed edges join to the start vertex, itself included
+unfoldable pub reached : Network → List Bool → ℕ → List Bool
+reached g K start = within g K start (g .vertices)
+
+-- how many they are
+unfoldable pub reachedCount : Network → List Bool → ℕ → ℕ
+reachedCount g K start = sum (g .vertices) (λ v. bit (sideOf (reached g K start) v))
+
+-- the listed edges join all vertices: all are reached from vertex 0
+unfoldable pub connected : Network → List Bool → Bool
+connected g K = each (g .vertices) (sideOf (reached g K 0))

@@ -1,0 +1,64 @@
+-- `host_texts::chains::thinning_read_chain` meets its contract.
+use borrow.Author.Needs.{needs}
+use Rattle.host_texts.proofs.Numbers.{chain-unread, chain-read}
+use Rattle.host_texts.proofs.chains.thinning_read_chain.Statement.{statement}
+use Rattle.host_texts.proofs.chains.thinning_read_chain.Tie as tie
+
+read-chain-requires : tie.Need-read-chain-requires
+read-chain-requires c κs = search needs
+
+enum-known-number : tie.Need-enum-known-number
+enum-known-number c = search needs
+
+cast-result : tie.Need-cast-result
+cast-result c = search needs
+
+enum-known-edge : tie.Need-enum-known-edge
+enum-known-edge c = search needs
+
+same-length : tie.Need-same-length
+same-length c = search needs
+
+same-length-2 : tie.Need-same-length-2
+same-length-2 c = search needs
+
+same-length-3 : tie.Need-same-length-3
+same-length-3 c = search needs
+
+returns : tie.Need-returns
+returns c =
+    let e = c .before .before .before .before .before .before .before .before .before .read-chain .ensures in
+    let n = chain-unread _ _ (c .before .number .given .1) (e .replies) _ in
+    (n .0, (e .fills-v, (e .fills-x, (e .fills-y, n .1))))
+
+same-length-4 : tie.Need-same-length-4
+same-length-4 c = search needs
+
+same-length-5 : tie.Need-same-length-5
+same-length-5 c = search needs
+
+same-length-6 : tie.Need-same-length-6
+same-length-6 c = search needs
+
+returns-2 : tie.Need-returns-2
+returns-2 c =
+    let e = c .before .before .before .before .before .before .before .before .before .read-chain .ensures in
+    let n = chain-read _ _ _ (c .before .edge .given .1) (e .replies) _ in
+    (n .0, (e .fills-v, (e .fills-x, (e .fills-y, n .1))))
+
+pub thinning-read-chain-spec : {M : Type 1} → statement M
+thinning-read-chain-spec =
+    tie.close
+    (tie.spec
+    read-chain-requires
+    enum-known-number
+    cast-result
+    enum-known-edge
+    same-length
+    same-length-2
+    same-length-3
+    returns
+    same-length-4
+    same-length-5
+    same-length-6
+    returns-2)

@@ -1,0 +1,111 @@
+-- Edges checked one after the other: what is known while the edges so far have passed.
+-- Assumes nothing.
+use mathlib.Core.Path.{_≡_, refl, sym, _∙_, ap}
+use mathlib.Core.Bool.{Bool, true, false, cond, _&&_}
+use mathlib.Core.List.{List, [], _∷_, _++_, append-nil}
+use Prim.Native.Nat.{ℕ, suc, _+_, _*_, _≤_, _<_}
+use native.Mathlib.Omega.{arith}
+use native.Mathlib.Numerals.{add-one}
+use lib.Dec.{ltb, eqb}
+use lib.ListN.{length, length-append}
+use lib.Seq.{append-snoc}
+use borrow.Author.Tests.{ltb-true, eqb-true}
+use Rattle.base.proofs.Answers.{unless-refused, unless-next}
+use Rattle.base.specs.Answer.{Answer, refused, answer, andThen}
+use Rattle.base.specs.Limits.{fewestVertices, vertexLimit, verticesOk, costOk}
+use Rattle.base.specs.Refusals.{FORM, VERTICES, RESERVED, ENDS, COST}
+use Rattle.base.proofs.Answers.{then-refused}
+use Rattle.base.proofs.LimitLaws.{vertices-within}
+use Rattle.frame.specs.declared.kinds.Edge.{Edge}
+use Rattle.network_text.specs.Text.{Edges, finished, interrupted, next, headRefusal, edgeRefusal, checked}
+
+-- what a head and an edge say that are not refused
+pub record HeadPassed (n r : ℕ) : Type 0 where
+  pub many : fewestVertices ≤ n
+  pub few : n ≤ vertexLimit
+  pub inside : r < 2 * n
+
+pub record EdgePassed (n place : ℕ) (e : Edge) : Type 0 where
+  pub numbered : e .number ≡ place
+  pub rising : e .lower < e .higher
+  pub inside : e .higher < n
+  pub limited : costOk (e .cost) ≡ true
+
+pub head-passed : (n r : ℕ) → headRefusal n r ≤ 0 → HeadPassed n r
+unfolding headRefusal
+head-passed n r h = go (verticesOk n) refl (ltb r (2 * n)) refl h
+  where
+    go : (a : Bool) → verticesOk n ≡ a → (b : Bool) → ltb r (2 * n) ≡ b
+        → cond a (cond b 0 RESERVED) VERTICES ≤ 0 → HeadPassed n r
+    go true v true l h =
+        record { many = vertices-within n v .0; few = vertices-within n v .1; inside = ltb-true r (2 * n) l }
+    go true v false l h = absurd (omega arith)
+    go false v b l h = absurd (omega arith)
+
+pub edge-passed : (n place : ℕ) (e : Edge) → edgeRefusal n place e ≤ 0 → EdgePassed n place e
+unfolding edgeRefusal
+edge-passed n place e h =
+    go (eqb (e .number) place) refl (ltb (e .lower) (e .higher)) refl (ltb (e .higher) n) refl (costOk (e .cost)) refl h
+  where
+    go : (a : Bool) → eqb (e .number) place ≡ a → (b : Bool) → ltb (e .lower) (e .higher) ≡ b
+        → (c : Bool) → ltb (e .higher) n ≡ c → (d : Bool) → costOk (e .cost) ≡ d
+        → cond (a && (b && c)) (cond d 0 COST) ENDS ≤ 0 → EdgePassed n place e
+    go true p true q true s true t h =
+        record { numbered = eqb-true _ _ p; rising = ltb-true _ _ q; inside = ltb-true _ _ s; limited = t }
+    go true p true q true s false t h = absurd (omega arith)
+    go true p true q false s d t h = absurd (omega arith)
+    go true p false q c s d t h = absurd (omega arith)
+    go false p b q c s d t h = absurd (omega arith)
+
+-- a refusal's number that is one, and that is none
+-- the edges before the i-th have passed, and those that are left decide an answer that is made of all
+pub record Passing {M : Type 0} (a : Answer M) (make : List Edge → M) (n : ℕ) (passed : List Edge) (i : ℕ)
+    (rest : Edges) : Type 0 where
+  pub count : length passed ≡ i
+  pub due : a ≡ andThen (checked n i rest) (λ later. answer (make (passed ++ later)))
+
+-- the next edge passes, and those behind it decide
+pub record Goes (n i : ℕ) (rest : Edges) (e : Edge) (later : Edges) : Type 0 where
+  pub on : checked n i rest ≡ andThen (checked n (suc i) later) (λ es. answer (e ∷ es))
+
+pub passing-none : {M : Type 0} {a : Answer M} {make : List Edge → M} {n : ℕ} {rest : Edges}
+    → a ≡ andThen (checked n 0 rest) (λ es. answer (make es)) → Passing a make n [] 0 rest
+passing-none x = record { count = refl; due = x }
+
+then-more : {M : Type 0} (make : List Edge → M) (e : Edge) (passed : List Edge) (b : Answer (List Edge))
+    → andThen (andThen b (λ es. answer (e ∷ es))) (λ later. answer (make (passed ++ later)))
+    ≡ andThen b (λ later. answer (make ((passed ++ (e ∷ [])) ++ later)))
+unfolding andThen
+then-more make e passed (refused k) = refl
+then-more make e passed (answer later) = ap (λ es. answer (make es)) (sym (append-snoc passed e later))
+
+module _ {M : Type 0} {a : Answer M} {make : List Edge → M} {n : ℕ} {passed : List Edge} {i : ℕ} {rest : Edges}
+    (p : Passing a make n passed i rest) where
+  pub passing-end : rest ≡ finished → a ≡ answer (make passed)
+  unfolding checked andThen
+  passing-end x = p .due ∙ rw (x, append-nil)
+
+  pub passing-refused : {k : ℕ} → checked n i rest ≡ refused k → a ≡ refused k
+  passing-refused {k} x = p .due ∙ then-refused (checked n i rest) _ k x
+
+  pub passing-stop : rest ≡ interrupted → a ≡ refused FORM
+  unfolding checked
+  passing-stop x = passing-refused (rw x)
+
+  pub passing-next : {e : Edge} {later : Edges} → Goes n i rest e later
+      → Passing a make n (passed ++ (e ∷ [])) (i + 1) later
+  passing-next {e} {later} x =
+      record {
+        count = length-append passed (e ∷ []) ∙ omega (arith, p .count);
+        due = p .due ∙ rw (x .on, add-one) (then-more make e passed (checked n (suc i) later));
+      }
+
+-- an edge that is there, refused or not
+module _ (n i : ℕ) {rest : Edges} {e : Edge} {later : Edges} (x : rest ≡ next e later) where
+  pub edge-stops : 0 < edgeRefusal n i e → checked n i rest ≡ refused (edgeRefusal n i e)
+  unfolding checked
+  edge-stops h = rw (x, unless-refused (edgeRefusal n i e) _ h)
+
+  pub edge-goes : edgeRefusal n i e ≤ 0 → Goes n i rest e later
+  unfolding checked
+  edge-goes h = record { on = rw (x, unless-next (edgeRefusal n i e) _ h) }

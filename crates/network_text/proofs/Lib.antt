@@ -1,0 +1,15 @@
+pub mod CostField
+pub mod Columns
+pub mod Edges
+pub mod Cases
+pub mod Head
+pub mod Reading
+pub mod Whole
+pub mod Meaning
+pub mod Given
+pub mod Longest
+pub mod Checking
+pub mod Writing
+pub mod Texts
+pub mod OneToOne
+pub mod Examples

@@ -1,0 +1,224 @@
+-- What is known while the edges of a network text are read into columns, by whichever reader.
+-- Assumes nothing.
+use mathlib.Core.Path.{_≡_, refl, sym, _∙_}
+use mathlib.Core.Bool.{Bool, true, false, cond}
+use mathlib.Core.List.{List, [], _∷_, _++_, map}
+use Prim.Native.Nat.{ℕ, zero, suc, _+_, _*_, _≤_, _<_}
+use native.Mathlib.Omega.{arith}
+use lib.ListN.{length, drop, getD, set, replicate, length-set, length-replicate, getD-replicate}
+use lib.IntN.{ℤ}
+use Rattle.base.specs.Answer.{Answer, refused, answer, andThen, unless, over}
+use Rattle.base.specs.Limits.{vertexLimit}
+use Rattle.base.specs.Refusals.{FORM}
+use Rattle.base.proofs.Bools.{no-answer}
+use Rattle.frame.specs.Table.{EDGE, lineLength}
+use Rattle.frame.specs.Line.{Placed, placed, isLine, fieldsOf, lineAt, readLine}
+use Rattle.frame.specs.Kinds.{edgeOf}
+use Rattle.frame.specs.Frames.{framesOf}
+use Rattle.frame.specs.declared.line.Fields.{Fields}
+use Rattle.frame.specs.declared.kinds.Head.{Head}
+use Rattle.frame.specs.declared.kinds.Edge.{Edge}
+use Rattle.frame.proofs.Runs.{next-read, run-next, run-broken, run-left, run-done}
+use Rattle.network_text.specs.Text.{Meaning, Edges, next, interrupted, edgeRefusal, checked, meaningOf, inFrames}
+use Rattle.network_text.specs.Text.{edgesOf, readNetwork, readReply}
+use Rattle.network_text.specs.Frames.{found, readHead, edgeIn, readEdge}
+use Rattle.network_text.specs.Columns.{Columns, NetworkRead}
+use Rattle.network_text.specs.declared.network.ReadNetwork.the-variants.{Read, Refused}
+use Rattle.network_text.proofs.Columns.{part-next}
+use Rattle.network_text.proofs.Edges.{HeadPassed, EdgePassed, edge-passed, Passing, Goes, passing-none}
+use Rattle.network_text.proofs.Edges.{passing-end, passing-stop, passing-refused, passing-next, edge-stops}
+use Rattle.network_text.proofs.Edges.{edge-goes}
+use Rattle.network_text.proofs.Head.{edges-due, head-fine}
+
+-- the edges that are left of a text, from a place and from the i-th on
+abbrev left : ℕ → List ℕ → ℕ → ℕ → Edges
+left n text at i = inFrames (framesOf (drop i (replicate (2 * n) EDGE)) (drop at text))
+
+rows-due : (n : ℕ) → length (replicate (2 * n) EDGE) ≡ 2 * n
+rows-due n = length-replicate (2 * n) EDGE
+
+-- ── the edge at a place, as it is read by itself ──
+
+-- a line's only refusal is its form
+only-form : (row : ℕ) (text : List ℕ) (at j : ℕ) → refused j ≡ readLine row text at → j ≡ FORM
+unfolding readLine lineAt
+only-form row text at j x = go (isLine row (drop at text)) x
+  where
+    go : (b : Bool)
+        → refused j ≡ cond b (answer (placed (fieldsOf row (drop at text)) (at + lineLength row))) (refused FORM)
+        → j ≡ FORM
+    go true y = no-answer (cc)
+    go false y = cc
+
+-- what an edge decides that is read: it has passed, and the next one is due behind it
+pub record EdgeFound (n : ℕ) (text : List ℕ) (at i : ℕ) (e : Edge) (behind : ℕ) : Type 0 where
+  pub passed : EdgePassed n i e
+  pub goes : Goes n i (left n text at i) e (left n text behind (i + 1))
+
+module _ (n : ℕ) (text : List ℕ) (at i : ℕ) (h : i < 2 * n) where
+  row-due : EDGE ≡ getD (replicate (2 * n) EDGE) i 0
+  row-due = sym (getD-replicate (2 * n) i EDGE 0 h)
+
+  -- the edge of a line
+  module _ {f : Fields} {behind : ℕ} (x : answer (placed f behind) ≡ readLine EDGE text at) where
+    there : left n text at i ≡ next (edgeOf f) (left n text behind (i + 1))
+    unfolding inFrames
+    there =
+        rw (run-next (replicate (2 * n) EDGE) text i at EDGE (omega (arith, rows-due n)) row-due f behind
+        (next-read EDGE at text f behind x))
+
+  broken-there : refused FORM ≡ readLine EDGE text at → left n text at i ≡ interrupted
+  unfolding inFrames
+  broken-there x = rw (run-broken (replicate (2 * n) EDGE) text i at EDGE (omega (arith, rows-due n)) row-due x)
+
+  pub edge-refused : {k : ℕ} → refused k ≡ readEdge text at n i → checked n i (left n text at i) ≡ refused k
+  unfolding readEdge edgeIn andThen unless checked
+  edge-refused {k} x = go (readLine EDGE text at) refl x
+    where
+      -- by the edge's own refusal
+      own : {f : Fields} {behind : ℕ} → answer (placed f behind) ≡ readLine EDGE text at
+          → (m : ℕ) → edgeRefusal n i (edgeOf f) ≡ m → refused k ≡ unless m (answer (found (edgeOf f) behind))
+          → checked n i (left n text at i) ≡ refused k
+      own q zero e y = no-answer (cc)
+      own q (suc m) e y = edge-stops n i (there q) (omega arith) ∙ cc
+
+      go : (a : Answer Placed) → a ≡ readLine EDGE text at → refused k ≡ andThen a (edgeIn n i)
+          → checked n i (left n text at i) ≡ refused k
+      go (refused j) q y = let z = only-form EDGE text at j q in rw (broken-there (cc)) (cc)
+      go (answer (placed f behind)) q y = own q _ refl y
+
+  pub edge-found : {e : Edge} {behind : ℕ} → answer (found e behind) ≡ readEdge text at n i
+      → EdgeFound n text at i e behind
+  unfolding readEdge edgeIn andThen unless
+  edge-found {e} {behind} x = go (readLine EDGE text at) refl x
+    where
+      -- by the edge's own refusal
+      own : {f : Fields} {place : ℕ} → answer (placed f place) ≡ readLine EDGE text at
+          → (m : ℕ) → edgeRefusal n i (edgeOf f) ≡ m
+          → answer (found e behind) ≡ unless m (answer (found (edgeOf f) place)) → EdgeFound n text at i e behind
+      own {f} {place} q zero r y =
+          let u : edgeOf f ≡ e = cc in
+          let v : place ≡ behind = cc in
+          rw (← u, ← v)
+          (record { passed = edge-passed n i (edgeOf f) (omega arith); goes = edge-goes n i (there q) (omega arith) })
+      own q (suc m) r y = no-answer (cc)
+
+      go : (a : Answer Placed) → a ≡ readLine EDGE text at → answer (found e behind) ≡ andThen a (edgeIn n i)
+          → EdgeFound n text at i e behind
+      go (refused j) q y = no-answer (cc)
+      go (answer (placed f place)) q y = own q _ refl y
+
+-- ── edges in columns ──
+
+-- the columns hold the edges before the i-th, which have passed, and those that are left decide what is read
+pub record Reading (text : List ℕ) (n r : ℕ) (low₀ high₀ : List ℕ) (cost₀ : List ℤ) (low high : List ℕ) (cost : List ℤ)
+    (at i : ℕ) : Type 0 where
+  pub head : HeadPassed n r
+  pub passed : List Edge
+  pub edges : Passing (readNetwork text) (meaningOf n r) n passed i (left n text at i)
+  pub within : i ≤ 2 * n
+  pub low-size : length low ≡ length low₀
+  pub high-size : length high ≡ length high₀
+  pub cost-size : length cost ≡ length cost₀
+  pub lows : low ≡ over (map (λ e. e .lower) passed) low₀
+  pub highs : high ≡ over (map (λ e. e .higher) passed) high₀
+  pub costs : cost ≡ over (map (λ e. e .cost) passed) cost₀
+
+pub reading-none : {text : List ℕ} {h : Head} {first : ℕ} {low high : List ℕ} {cost : List ℤ}
+    → answer (found h first) ≡ readHead text
+    → Reading text (h .vertices) (h .reserved) low high cost low high cost first 0
+unfolding over edgesOf
+reading-none {text} x =
+    record {
+      head = head-fine text x;
+      passed = [];
+      edges = passing-none (edges-due text x);
+      within = omega arith;
+      low-size = refl;
+      high-size = refl;
+      cost-size = refl;
+      lows = refl;
+      highs = refl;
+      costs = refl;
+    }
+
+-- a network that is read, and its columns
+pub record AllRead (text : List ℕ) (n r : ℕ) (low₀ high₀ : List ℕ) (cost₀ : List ℤ) (low high : List ℕ) (cost : List ℤ)
+    : Type 0 where
+  pub meaning : Meaning
+  pub is : readNetwork text ≡ answer meaning
+  pub vertices : n ≡ meaning .vertices
+  pub reserved : r ≡ meaning .reserved
+  pub lows : low ≡ over (meaning .low) low₀
+  pub highs : high ≡ over (meaning .high) high₀
+  pub costs : cost ≡ over (meaning .cost) cost₀
+
+module _ {text : List ℕ} {n r : ℕ} {low₀ high₀ : List ℕ} {cost₀ : List ℤ} {low high : List ℕ} {cost : List ℤ} {at i : ℕ}
+    (w : Reading text n r low₀ high₀ cost₀ low high cost at i) where
+  -- one edge more, which is refused or read
+  module _ (l : i < 2 * n) where
+    pub reading-refused : {k : ℕ} → refused k ≡ readEdge text at n i → readNetwork text ≡ refused k
+    reading-refused x = passing-refused (w .edges) (edge-refused n text at i l x)
+
+    pub reading-next : {e : Edge} {behind : ℕ} → answer (found e behind) ≡ readEdge text at n i
+        → Columns vertexLimit low₀ high₀ cost₀
+        → Reading text n r low₀ high₀ cost₀ (set low i (e .lower)) (set high i (e .higher)) (set cost i (e .cost))
+        behind (i + 1)
+    reading-next {e} x k =
+        let m = w .edges .count in
+        let few = w .head .few in
+        record {
+          head = w .head;
+          passed = w .passed ++ (e ∷ []);
+          edges = passing-next (w .edges) (edge-found n text at i l x .goes);
+          within = omega arith;
+          low-size = length-set low i (e .lower) ∙ w .low-size;
+          high-size = length-set high i (e .higher) ∙ w .high-size;
+          cost-size = length-set cost i (e .cost) ∙ w .cost-size;
+          lows = part-next (λ a. a .lower) (w .passed) e low₀ m (omega (arith, k .low-room)) (w .lows);
+          highs = part-next (λ a. a .higher) (w .passed) e high₀ m (omega (arith, k .high-room)) (w .highs);
+          costs = part-next (λ a. a .cost) (w .passed) e cost₀ m (omega (arith, k .cost-room)) (w .costs);
+        }
+
+  -- the last edge is read: something is left over, or nothing
+  module _ (l : 2 * n ≤ i) where
+    pub reading-left : at < length text → readNetwork text ≡ refused FORM
+    unfolding inFrames
+    reading-left m =
+        passing-stop (w .edges) (rw (run-left (replicate (2 * n) EDGE) text i at (omega (arith, rows-due n)) m))
+
+    pub reading-end : length text ≤ at → AllRead text n r low₀ high₀ cost₀ low high cost
+    unfolding inFrames meaningOf
+    reading-end m =
+        record {
+          meaning = meaningOf n r (w .passed);
+          is = passing-end (w .edges) (rw (run-done (replicate (2 * n) EDGE) text i at (omega (arith, rows-due n)) m));
+          vertices = refl;
+          reserved = refl;
+          lows = w .lows;
+          highs = w .highs;
+          costs = w .costs;
+        }
+
+-- ── what the reader into columns replies ──
+module _ (text : List ℕ) {low₀ high₀ : List ℕ} {cost₀ : List ℤ} where
+  -- nothing is stored before the head has passed
+  pub columns-untouched : {k : ℕ} → readNetwork text ≡ refused k
+      → NetworkRead (readNetwork text) low₀ high₀ cost₀ low₀ high₀ cost₀ (Refused k)
+  unfolding readReply
+  columns-untouched x = rw x (record { reply = refl; lows = refl; highs = refl; costs = refl })
+
+  module _ {n r : ℕ} {low high : List ℕ} {cost : List ℤ} where
+    pub columns-refused : {at i k : ℕ} → Reading text n r low₀ high₀ cost₀ low high cost at i
+        → readNetwork text ≡ refused k
+        → NetworkRead (readNetwork text) low₀ high₀ cost₀ low high cost (Refused k)
+    unfolding readReply
+    columns-refused w x =
+        rw x (record { reply = refl; lows = w .low-size; highs = w .high-size; costs = w .cost-size })
+
+    pub columns-read : AllRead text n r low₀ high₀ cost₀ low high cost
+        → NetworkRead (readNetwork text) low₀ high₀ cost₀ low high cost (Read n r)
+    unfolding readReply
+    columns-read w =
+        rw (w .is)
+        (record { reply = rw (w .vertices, w .reserved); lows = w .lows; highs = w .highs; costs = w .costs })

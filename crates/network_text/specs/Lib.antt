@@ -1,0 +1,4 @@
+pub mod Text
+pub mod Frames
+pub mod Columns
+pub mod OneToOne

@@ -1,0 +1,6 @@
+pub mod Running
+pub mod Moves
+pub mod Others
+pub mod Judgements
+pub mod Endings
+pub mod Plans

@@ -1,0 +1,21 @@
+// The rules over a network: judging a step and an ending, the planner, and costs.
+mod choice;
+mod costs;
+mod ending;
+mod judge;
+mod others;
+mod planner;
+
+pub use choice::Move;
+pub use choice::Pair;
+pub use choice::chosen_pair;
+pub use choice::chosen_step;
+pub use costs::all_but_reserved;
+pub use costs::kept_cost;
+pub use ending::Ended;
+pub use ending::end_with;
+pub use ending::mark_two;
+pub use judge::Judged;
+pub use judge::judge_step;
+pub use planner::Plan;
+pub use planner::plan_steps;

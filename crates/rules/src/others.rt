@@ -1,0 +1,38 @@
+// The other two of three edges, and which of two edges is cheaper.
+use graph::Network;
+use graph::Partners;
+ghost use mathlib.Core.Path.{_≡_};
+ghost use lib.Signed.{ltZ};
+ghost use Rattle.graph.specs.Network.{costOf};
+ghost use Rattle.rules.specs.Running.{Costed};
+ghost use Rattle.rules.specs.Others.{othersOf};
+
+// The two of three edges that are not a given one, in rising order.
+pub enum Others {
+    Two(usize, usize),
+    None,
+}
+
+// The edges other than x, where x is one of the three.
+pub fn others_than(partners: Partners, x: usize) -> Others
+    ensures { λ r. ⌜ r ≡ othersOf partners x ⌝ }
+{
+    if x == partners.first {
+        return Others::Two(partners.second, partners.third);
+    }
+    if x == partners.second {
+        return Others::Two(partners.first, partners.third);
+    }
+    if x == partners.third {
+        return Others::Two(partners.first, partners.second);
+    }
+    Others::None
+}
+
+// Whether x costs less than y.
+pub fn cheaper(network: Network, x: usize, y: usize) -> bool
+    requires { ⌜ Costed network x y ⌝ }
+    ensures { λ r. ⌜ r ≡ ltZ (costOf network x) (costOf network y) ⌝ }
+{
+    network.cost[x] < network.cost[y]
+}
