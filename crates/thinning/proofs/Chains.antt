@@ -7,7 +7,7 @@ use native.Mathlib.Omega.{arith}
 use lib.ListN.{length, drop}
 use lib.Seq.{drop-drop}
 use borrow.Author.Tests.{le-leb, lt-leb}
-use Rattle.base.specs.Answer.{Answer, answer, refused, unless, refusalOf}
+use Rattle.base.specs.Answer.{Answer, answer, refused, unless, refusalOf, numberGiven}
 use Rattle.frame.specs.Table.{STEP, DROPPED, lineLength}
 use Rattle.frame.specs.Line.{isLine}
 use Rattle.graph.specs.Split.{split, third, after}
@@ -19,11 +19,11 @@ use Rattle.thinning.specs.Verdicts.{stepIn, droppedIn, leftOver, checkEn
 -- ── what a verdict leaves ──
 module _ {w : Answer (List Bool)} where
   pub refused-leaves : {k : ℕ} → w ≡ refused k → (old : List Bool) → (k ≡ refusalOf w) × (old ≡ marksAfter w old)
-  unfolding refusalOf marksAfter
+  unfolding refusalOf numberGiven
   refused-leaves e old = (rw e, rw e)
 
   pub kept-leaves : {K : List Bool} → w ≡ answer K → (old : List Bool) → (0 ≡ refusalOf w) × (K ≡ marksAfter w old)
-  unfolding refusalOf marksAfter
+  unfolding refusalOf numberGiven
   kept-leaves e old = (rw e, rw e)
 
 -- and the other way round
@@ -34,7 +34,7 @@ was-refused (answer K) e l = absurd (omega arith)
 
 pub was-kept : (w : Answer (List Bool)) → ((j : ℕ) → w ≡ refused j → 0 < j) → {k : ℕ} → k ≡ refusalOf w → k ≤ 0
     → (old : List Bool) {K : List Bool} → K ≡ marksAfter w old → w ≡ answer K
-unfolding refusalOf marksAfter
+unfolding refusalOf numberGiven
 was-kept (refused j) numbered e l old m = absurd (omega (arith, numbered j refl))
 was-kept (answer L) numbered e l old m = ap answer (sym m)
 

@@ -4,7 +4,7 @@ use mathlib.Core.List.{List}
 use Prim.Native.Nat.{ℕ, zero, suc}
 use lib.Dec.{leb}
 use lib.ListN.{length, drop}
-use Rattle.base.specs.Answer.{Answer, answer, refused, unless}
+use Rattle.base.specs.Answer.{Answer, answer, refused, unless, numberGiven}
 use Rattle.base.specs.Refusals.{FORM}
 use Rattle.frame.specs.Table.{STEP, DROPPED, lineLength}
 use Rattle.frame.specs.Line.{isLine, fieldsOf}
@@ -43,6 +43,5 @@ checkChain (suc n) g t =
 -- ── what the code answers ──
 
 -- marks that were lent, afterwards: what is kept, or with a refusal the marks as they were
-unfoldable pub marksAfter : Answer (List Bool) → List Bool → List Bool
-marksAfter (refused k) old = old
-marksAfter (answer K) old = K
+abbrev pub marksAfter : Answer (List Bool) → List Bool → List Bool
+marksAfter a old = numberGiven (λ K. K) a old

@@ -19,12 +19,14 @@ Inv-loop present vertices ends ports anchor vertex₀ vertex =
 abbrev μ-loop : tie.MeasureT-loop
 μ-loop present vertices ends ports anchor vertex₀ vertex = vertices - vertex
 
-few : (c : tie.After-first-present Inv-loop μ-loop)
-    → c .before .before .before .before .before .before .args .network .vertices ≤ vertexLimit
+-- once the anchor is known: what the function was given
+abbrev given : tie.After-first-present Inv-loop μ-loop → tie.Start Inv-loop μ-loop
+given c = c .before .before .before .before .before .before
+
+few : (c : tie.After-first-present Inv-loop μ-loop) → given c .args .network .vertices ≤ vertexLimit
 few c =
-    let long : length (c .before .before .before .before .before .before .args .network .present) ≡ vertexLimit =
-    search needs in
-    omega (arith, c .before .before .before .before .before .before .pre .present-room)
+    let long : length (given c .args .network .present) ≡ vertexLimit = search needs in
+    omega (arith, given c .pre .present-room)
 
 -- in a turn of the loop: what the function was given
 abbrev entry : tie.In-loop Inv-loop μ-loop → tie.Start Inv-loop μ-loop
@@ -98,10 +100,10 @@ loop-again c =
 
 returns-2 : tie.Need-returns-2 Inv-loop μ-loop
 returns-2 c =
-    let anchor = c .before .before .first-present .ensures in
-    let laid = c .before .before .before .before .before .before .lay .ensures in
-    tested-all (c .before .before .before .before .before .before .before .before .pre) anchor laid (c .loop-test .left)
-    (c .before .loop .inv .2)
+    let anchored = c .before .before in
+    let laid = anchored .before .before .before .before in
+    tested-all (laid .before .before .pre) (anchored .first-present .ensures) (laid .lay .ensures)
+    (c .loop-test .left) (c .before .loop .inv .2)
 
 pub every-cut-four-spec : {M : Type 1} → statement M
 every-cut-four-spec =

@@ -21,33 +21,30 @@ enum-known-chain-length c = search needs
 
 array-share-prefix-chain : tie.Need-array-share-prefix-chain
 array-share-prefix-chain c =
-    omega (
-      arith,
-      written-short _ _ _ (sym (c .before .chain-length .given .1)
-          ∙ c .before .before .before .before .before .plan-roomy .ensures .0) .0,
-    )
+    let known = c .before in
+    let planned = known .before .before .before .before in
+    omega (arith, written-short _ _ _ (sym (known .chain-length .given .1) ∙ planned .plan-roomy .ensures .0) .0)
 
 slice-aggregate-write-all : tie.Need-slice-aggregate-write-all
 slice-aggregate-write-all c =
-    sym (length-take-le _ (c .before .before .before .before .before .before .plan-roomy .last .1 .0)
-    (array-share-prefix-chain (c .before)))
+    let share = c .before in
+    let planned = share .before .before .before .before .before in
+    sym (length-take-le _ (planned .plan-roomy .last .1 .0) (array-share-prefix-chain share))
 
 write-all-requires : tie.Need-write-all-requires
 write-all-requires c κs = search needs
 
 array-share-prefix-kept : tie.Need-array-share-prefix-kept
-array-share-prefix-kept c = let k =
-    c .before .before in
-    omega (
-      arith,
-      written-short _ _ _ (sym (k .before .chain-length .given .1)
-          ∙ k .before .before .before .before .before .plan-roomy .ensures .0) .1,
-    )
+array-share-prefix-kept c =
+    let known = c .before .before .before in
+    let planned = known .before .before .before .before in
+    omega (arith, written-short _ _ _ (sym (known .chain-length .given .1) ∙ planned .plan-roomy .ensures .0) .1)
 
 slice-aggregate-write-all-2 : tie.Need-slice-aggregate-write-all-2
 slice-aggregate-write-all-2 c =
-    sym (length-take-le _ (c .before .before .before .before .before .before .before .before .plan-roomy .last .1 .1 .0)
-    (array-share-prefix-kept (c .before)))
+    let share = c .before in
+    let planned = share .before .before .before .before .before .before .before in
+    sym (length-take-le _ (planned .plan-roomy .last .1 .1 .0) (array-share-prefix-kept share))
 
 write-all-requires-2 : tie.Need-write-all-requires-2
 write-all-requires-2 c κs = search needs

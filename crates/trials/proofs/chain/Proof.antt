@@ -33,17 +33,15 @@ say-requires-3 c κs = search needs
 
 array-share-prefix-kept : tie.Need-array-share-prefix-kept
 array-share-prefix-kept c =
-    omega (
-      arith,
-      done-fits _ _ _
-          (sym (c .before .before .before .length .given .1)
-          ∙ c .before .before .before .before .before .before .check-chain .ensures .0),
-    )
+    let known = c .before .before .before in
+    let checked = known .before .before .before in
+    omega (arith, done-fits _ _ _ (sym (known .length .given .1) ∙ checked .check-chain .ensures .0))
 
 slice-aggregate-write-all : tie.Need-slice-aggregate-write-all
 slice-aggregate-write-all c =
-    sym (length-take-le _ (c .before .before .before .before .before .before .before .check-chain .last .1 .1 .0)
-    (array-share-prefix-kept (c .before)))
+    let share = c .before in
+    let checked = share .before .before .before .before .before .before in
+    sym (length-take-le _ (checked .check-chain .last .1 .1 .0) (array-share-prefix-kept share))
 
 write-all-requires : tie.Need-write-all-requires
 write-all-requires c κs = search needs

@@ -18,7 +18,10 @@ same-length-2 c = search needs
 
 returns : tie.Need-returns
 unfolding entered
-returns c = rw (c .before .before .before .before .before .before .add .ensures, c .before .before .add2 .ensures)
+returns c =
+    let second = c .before .before in
+    let first = second .before .before .before .before in
+    rw (first .add .ensures, second .add2 .ensures)
 
 pub enter-spec : {M : Type 1} → statement M
 enter-spec = tie.close (tie.spec add-requires add-requires-2 same-length same-length-2 returns)

@@ -56,23 +56,17 @@ shared-slice-read-to : tie.Need-shared-slice-read-to
 shared-slice-read-to c = search needs
 
 cast-to : tie.Need-cast-to
-cast-to c = omega (
-  arith,
-  c .shared-slice-known3 .given (reverse (c .before .before .before .before .before .before .args .arc)),
-)
+cast-to c = let arc = c .before .before .before .before .before .before .args .arc in
+    omega (arith, c .shared-slice-known3 .given (reverse arc))
 
 mul-if3 : tie.Need-mul-if3
-mul-if3 c = omega (
-  arith,
-  c .shared-slice-known3 .given (reverse (c .before .before .before .before .before .before .args .arc)),
-)
+mul-if3 c = let arc = c .before .before .before .before .before .before .args .arc in
+    omega (arith, c .shared-slice-known3 .given (reverse arc))
 
 slice-read-if3 : tie.Need-slice-read-if3
-slice-read-if3 c = omega (
-  arith,
-  c .before .shared-slice-known3 .given
-      (reverse (c .before .before .before .before .before .before .before .args .arc)),
-)
+slice-read-if3 c = let known = c .before in
+    let arc = known .before .before .before .before .before .before .args .arc in
+    omega (arith, known .shared-slice-known3 .given (reverse arc))
 
 returns-3 : tie.Need-returns-3
 returns-3 c = search needs
