@@ -3,7 +3,8 @@
 //! `cargo run --release --offline` prints a table: the core, the second program by the same method (`EveryFlow`:
 //! flows from one vertex to every other one) and by its faster one (`ContractedFlow`: one flow for a splitting), and
 //! how many times the second program's time the core takes. For the audit the two columns are its two ways, each listed
-//! edge left out in turn (as the core does) and one search for bridges. Each time is the shortest of a few runs; none is asserted.
+//! edge left out in turn (as the core does) and one search for bridges. Each time is the shortest of some runs, in which
+//! the programs take turns, so that a busy moment of the machine doesn't fall on one of them alone; none is asserted.
 
 use std::hint::black_box;
 use std::thread;
@@ -19,9 +20,9 @@ use second::{
 const SIZES: [usize; 4] = [32, 64, 128, 256];
 const FAMILIES: [Family; 2] = [Family::TwoCycles, Family::PinchedNear];
 const SEED: u64 = 1;
-const RUNS: usize = 3;
+const RUNS: usize = 15;
 /// Reading is short, so that more runs are needed to meet an undisturbed one.
-const READING_RUNS: usize = 500;
+const READING_RUNS: usize = 2_000;
 /// Bytes of stack that are to be enough for 256 vertices; a deeper call would end the program.
 const STACK: usize = 2_000_000;
 
@@ -62,31 +63,33 @@ fn on_small_stack(work: impl FnOnce() + Send) {
 
 /// Prints a line for each service that looks at cuts.
 fn services(family: Family, vertices: usize, text: &[u8]) {
-    let chain = thinning::plan(text).expect("it is accepted").chain;
-    let line = |service: &str, core: Duration, second: [Duration; 2]| {
+    let chain = &thinning::plan(text).expect("it is accepted").chain;
+    let line = |service: &str, works: [Work; 3]| {
+        let [core, second @ ..] = shortest(RUNS, works);
         print!("{:<12} {vertices:>8}  {service:<11}", format!("{family:?}"));
         print!(" {:>12.3}", milliseconds(core));
         for time in second {
-            let ratio = core.as_secs_f64() / time.as_secs_f64();
-            print!("   {:>12.3} {ratio:>6.2}", milliseconds(time));
+            print!("   {:>12.3} {:>6.2}", milliseconds(time), ratio(core, time));
         }
         println!();
     };
     let methods = [Method::EveryFlow, Method::ContractedFlow];
+    let [every, contracted] = methods.map(|method| work(move || check_network_by(text, method)));
     line(
         "check",
-        shortest(RUNS, || thinning::check_network(text)),
-        methods.map(|method| shortest(RUNS, || check_network_by(text, method))),
+        [work(|| thinning::check_network(text)), every, contracted],
     );
-    line(
-        "plan",
-        shortest(RUNS, || thinning::plan(text)),
-        methods.map(|method| shortest(RUNS, || plan_by(text, method))),
-    );
+    let [every, contracted] = methods.map(|method| work(move || plan_by(text, method)));
+    line("plan", [work(|| thinning::plan(text)), every, contracted]);
+    let [every, contracted] =
+        methods.map(|method| work(move || check_chain_by(text, chain, method)));
     line(
         "chain check",
-        shortest(RUNS, || thinning::check_chain(text, &chain)),
-        methods.map(|method| shortest(RUNS, || check_chain_by(text, &chain, method))),
+        [
+            work(|| thinning::check_chain(text, chain)),
+            every,
+            contracted,
+        ],
     );
     let edges: Vec<u16> = (0..2 * vertices)
         .map(|e| u16::try_from(e).expect("few edges"))
@@ -100,10 +103,10 @@ fn services(family: Family, vertices: usize, text: &[u8]) {
     };
     line(
         "audit",
-        shortest(RUNS, || thinning::audit(text, &list)),
         [
-            shortest(RUNS, by_definition),
-            shortest(RUNS, || audit(text, &list)),
+            work(|| thinning::audit(text, &list)),
+            work(by_definition),
+            work(|| audit(text, &list)),
         ],
     );
 }
@@ -112,27 +115,49 @@ fn services(family: Family, vertices: usize, text: &[u8]) {
 fn reading() {
     let text = text(Family::TwoCycles, 256);
     assert_eq!(text.len(), LONGEST_NETWORK_TEXT);
-    let core = shortest(READING_RUNS, || thinning::read_network(&text));
-    let second = shortest(READING_RUNS, || second::read_network(&text));
+    let [core, second] = shortest(
+        READING_RUNS,
+        [
+            work(|| thinning::read_network(&text)),
+            work(|| second::read_network(&text)),
+        ],
+    );
     println!(
         "reading {} bytes: core {:.4} ms, second {:.4} ms, ratio {:.2}",
         text.len(),
         milliseconds(core),
         milliseconds(second),
-        core.as_secs_f64() / second.as_secs_f64(),
+        ratio(core, second),
     );
 }
 
-/// The shortest of so many runs.
-fn shortest<T>(runs: usize, mut work: impl FnMut() -> T) -> Duration {
-    let timed = (0..runs).map(|_| {
-        let start = Instant::now();
-        black_box(work());
-        start.elapsed()
-    });
-    timed.min().expect("there are runs")
+/// Something to be timed.
+type Work<'a> = Box<dyn FnMut() + 'a>;
+
+fn work<'a, T>(mut run: impl FnMut() -> T + 'a) -> Work<'a> {
+    Box::new(move || {
+        black_box(run());
+    })
+}
+
+/// The shortest of so many runs of each work; they take turns.
+fn shortest<const N: usize>(runs: usize, mut works: [Work; N]) -> [Duration; N] {
+    let mut times = [Duration::MAX; N];
+    for _ in 0..runs {
+        for (time, work) in times.iter_mut().zip(&mut works) {
+            let start = Instant::now();
+            work();
+            *time = (*time).min(start.elapsed());
+        }
+    }
+    times
 }
 
 fn milliseconds(time: Duration) -> f64 {
     time.as_secs_f64() * 1_000.0
+}
+
+/// How many times the second program's time the core takes.
+fn ratio(core: Duration, second: Duration) -> f64 {
+    core.as_secs_f64() / second.as_secs_f64()
 }

@@ -3,7 +3,7 @@
 use mathlib.Core.Path.{_≡_, refl}
 use mathlib.Core.List.{[], _∷_}
 use Rattle.frame.specs.Table.{kindOf, bytesOf, padded, widths}
-use Rattle.frame.specs.Digits.{digitOf, spell}
+use Rattle.digits.specs.Hexadecimal.{digitOf, spell}
 use Rattle.frame.specs.Line.{spellAll, lineOf}
 use Rattle.frame.proofs.Examples.{printed}
 use Rattle.chain_text.specs.Text.{chainText}

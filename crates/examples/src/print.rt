@@ -7,6 +7,9 @@ ghost use Rattle.base.specs.Limits.{vertexLimit, edgeLimit};
 use base::EDGE_LIMIT;
 use graph::Kept;
 use graph::Network;
+use incidence::degrees_of;
+use incidence::four_each;
+use incidence::partners_at;
 use libc::STDOUT_FILENO;
 
 pub fn text(words: &[u8]) {
@@ -48,7 +51,7 @@ fn signed(cost: i64)
 fn ports(g: Network)
     requires { ⌜ (g .vertices ≤ vertexLimit) × (g .edges ≤ edgeLimit) ⌝ }
 {
-    let degrees = g.degrees();
+    let degrees = degrees_of(g);
     let vertices = g.vertices;
     text(b"ports");
     let mut v = 0;
@@ -64,7 +67,7 @@ pub fn overview(g: Network)
     requires { ⌜ (g .vertices ≤ vertexLimit) × (g .edges ≤ edgeLimit) ⌝ }
 {
     ports(g);
-    if g.four_each() {
+    if four_each(g) {
         text(b"every cabinet has four cables\n");
     } else {
         text(b"refusal 6\n");
@@ -75,7 +78,7 @@ pub fn overview(g: Network)
 pub fn partners(g: Network, v: u8)
     requires { ⌜ g .edges ≤ edgeLimit ⌝ }
 {
-    let found = g.partners(v);
+    let found = partners_at(g, v);
     text(b"partners at");
     number(v as usize);
     text(b":");

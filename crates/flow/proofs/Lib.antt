@@ -2,5 +2,3 @@ pub mod Laying
 pub mod Reaching
 pub mod Pushing
 pub mod Rounds
-pub mod Anchored
-pub mod Partnering

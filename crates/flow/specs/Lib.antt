@@ -1,6 +1,4 @@
 pub mod Apart
-pub mod Anchor
 pub mod Arcs
 pub mod Search
 pub mod Flow
-pub mod Partnered

@@ -9,11 +9,11 @@ use native.Mathlib.Nat.{zero-add, one-mul}
 use lib.ListN.{length, take, drop, length-drop, take-append-drop}
 use lib.Seq.{take-add, drop-drop, length-take-le}
 use Rattle.frame.specs.Table.{total}
-use Rattle.frame.specs.Digits.{allDigits, numberOf, spell}
+use Rattle.digits.specs.Hexadecimal.{allDigits, numberOf, spell}
 use Rattle.frame.specs.Line.{spellAll, valuesOf, FitAll}
 use Rattle.base.proofs.Bools.{and-left, and-right}
-use Rattle.frame.proofs.Spelling.{spell-append, length-spell, drop-spell, take-spell, digits-spell, number-spell}
-use Rattle.frame.proofs.Spelling.{spell-number, number-lt, digits-append}
+use Rattle.digits.proofs.Spelling.{spell-append, length-spell, drop-spell, take-spell, digits-spell, number-spell}
+use Rattle.digits.proofs.Spelling.{spell-number, number-lt, digits-append}
 
 -- digits in two parts of a text
 pub digits-parts : (d n : ℕ) (t : List ℕ)

@@ -7,8 +7,8 @@ use lib.IntN.{negsuc}
 use Rattle.base.specs.Answer.{refused, answer}
 use Rattle.frame.specs.Table.{KEPT, COSTS, REFUSAL, kindOf, padded, bytesOf, total, placeOf, startOf, digitsOf}
 use Rattle.frame.specs.Table.{widths, lineLength}
-use Rattle.frame.specs.Digits.{valueOf, digitOf, allDigits, numberOf, spell}
-use Rattle.frame.specs.Sign.{unsignedOf}
+use Rattle.digits.specs.Hexadecimal.{valueOf, digitOf, allDigits, numberOf, spell}
+use Rattle.digits.specs.Sign.{unsignedOf}
 use Rattle.frame.specs.Line.{FEED, spellAll, valuesOf, lineOf, fieldsOf, isLine, placed, lineAt, readLine}
 use Rattle.frame.specs.Kinds.{ofKept, keptDigits, unreservedDigits, ofCosts, ofRefusal}
 

@@ -10,10 +10,10 @@ use borrow.Author.Tests.{le-leb, eq-eqb}
 use Rattle.base.specs.Answer.{refused}
 use Rattle.base.specs.Refusals.{FORM}
 use Rattle.frame.specs.Table.{fields, kindOf, widths, total, startOf, lineLength}
-use Rattle.frame.specs.Digits.{allDigits, numberOf, numberIn}
+use Rattle.digits.specs.Hexadecimal.{allDigits, numberOf, numberIn}
 use Rattle.frame.specs.Line.{FEED, kindDigits, isLine, lineAt, readLine, fieldsLine}
-use Rattle.frame.specs.declared.digits.Number.the-variants.{Spelt, Broken}
-use Rattle.frame.proofs.Spelling.{number-is, number-broken}
+use Rattle.digits.specs.declared.hexadecimal.Number.the-variants.{Spelt, Broken}
+use Rattle.digits.proofs.Spelling.{number-is, number-broken}
 use Rattle.frame.proofs.Columns.{digits-parts}
 use Rattle.frame.proofs.Lines.{Formed, formed}
 use Rattle.frame.proofs.Rows.{start-end}

@@ -1,8 +1,5 @@
 pub mod Rows
-pub mod Values
-pub mod Spelling
 pub mod Columns
-pub mod Signs
 pub mod Lines
 pub mod Named
 pub mod Passes

@@ -13,12 +13,12 @@ use lib.Seq.{drop-at, drop-cons, getD-drop}
 use borrow.Author.Tests.{le-leb, eq-eqb, leb-true, eqb-true}
 use Rattle.base.specs.Answer.{over}
 use Rattle.frame.specs.Table.{fields, kindOf, widths, total, startOf, lineLength}
-use Rattle.frame.specs.Digits.{allDigits, numberOf, spell}
+use Rattle.digits.specs.Hexadecimal.{allDigits, numberOf, spell}
 use Rattle.frame.specs.Line.{FEED, kindDigits, listOf, fieldsFrom, spellAll, valuesOf, lineOf, fieldsOf, isLine}
 use Rattle.frame.specs.Line.{Fits}
 use Rattle.frame.specs.declared.line.Fields.{Fields}
 use Rattle.base.proofs.Bools.{and-left, and-right}
-use Rattle.frame.proofs.Spelling.{number-spell, take-spell, drop-spell}
+use Rattle.digits.proofs.Spelling.{number-spell, take-spell, drop-spell}
 use Rattle.frame.proofs.Columns.{spell-all-append, length-spell-all, drop-spell-all, digits-spell-all}
 use Rattle.frame.proofs.Columns.{values-found, values-back, values-fit, length-values}
 use Rattle.frame.proofs.Rows.{length-widths, start-end, kind-small}

@@ -17,7 +17,7 @@ use Rattle.frame.specs.Kinds.{ofRefusal}
 use Rattle.frame.specs.declared.line.Fields.{Fields}
 use Rattle.frame.specs.declared.kinds.Edge.{Edge}
 use Rattle.frame.specs.declared.kinds.Costs.{Costs}
-use Rattle.frame.proofs.Signs.{unsigned-signed, signed-unsigned}
+use Rattle.digits.proofs.Signs.{unsigned-signed, signed-unsigned}
 use Rattle.frame.proofs.Rows.{length-bytes}
 
 -- a field of a frame that fits has room in its digits

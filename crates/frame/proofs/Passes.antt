@@ -12,12 +12,12 @@ use borrow.Rule.Slice.PartMut.{putMid}
 use Rattle.base.specs.Answer.{refused, answer, over}
 use Rattle.base.specs.Refusals.{FORM}
 use Rattle.frame.specs.Table.{rows, fields, kindOf, widths, total, startOf, digitsOf, lineLength}
-use Rattle.frame.specs.Digits.{allDigits, numberIn, spell}
+use Rattle.digits.specs.Hexadecimal.{allDigits, numberIn, spell}
 use Rattle.frame.specs.Line.{FEED, kindDigits, listOf, fieldsFrom, spellAll, valuesOf, lineOf, fieldsOf, placed}
 use Rattle.frame.specs.Line.{fieldsLine}
-use Rattle.frame.specs.declared.digits.Number.the-variants.{Spelt, Broken}
+use Rattle.digits.specs.declared.hexadecimal.Number.the-variants.{Spelt, Broken}
 use Rattle.frame.specs.declared.line.Fields.{Fields}
-use Rattle.frame.proofs.Spelling.{number-is, number-broken, spell-append}
+use Rattle.digits.proofs.Spelling.{number-is, number-broken, spell-append}
 use Rattle.frame.proofs.Columns.{digits-parts}
 use Rattle.frame.proofs.Lines.{line-before, line-over}
 use Rattle.base.proofs.Parts.{drop-put}

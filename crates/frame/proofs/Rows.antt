@@ -11,7 +11,7 @@ use lib.Dec.{leb, ltb}
 use lib.ListN.{length, take, drop, getD, length-map, drop-of-length-le, List·getD-map, List·getD-eq-default}
 use lib.Seq.{drop-cons, take-all, take-nil}
 use borrow.Author.Tests.{ltb-true, leb-true}
-use Rattle.frame.specs.Digits.{byteValues}
+use Rattle.digits.specs.Hexadecimal.{byteValues}
 use Rattle.frame.specs.Table.{table, rows, fields, columns, kindOf, padded, bytesOf, total, placeOf, entryOf}
 use Rattle.frame.specs.Table.{startOf, digitsOf, widths}
 use Rattle.base.specs.Fold.{fold, tabulate}

@@ -11,7 +11,7 @@ use lib.Seq.{drop-at, drop-drop, length-take-le, take-add, take-all, take-at}
 use borrow.Rule.Slice.PartMut.{putMid}
 use Rattle.base.specs.Answer.{over}
 use Rattle.frame.specs.Table.{rows, fields, lineLength}
-use Rattle.frame.specs.Digits.{byteValues}
+use Rattle.digits.specs.Hexadecimal.{byteValues}
 use Rattle.frame.specs.Line.{lineOf}
 use Rattle.frame.specs.declared.line.Fields.{Fields}
 use Rattle.frame.proofs.Lines.{length-line}

@@ -3,7 +3,7 @@ use mathlib.Core.List.{[], _∷_}
 use Prim.Native.Nat.{ℕ}
 use Rattle.frame.specs.Table.{EDGE, COSTS, digitsOf}
 use Rattle.frame.specs.Line.{fieldsFrom}
-use Rattle.frame.specs.Sign.{signedOf, unsignedOf}
+use Rattle.digits.specs.Sign.{signedOf, unsignedOf}
 use Rattle.frame.specs.declared.line.Fields.{Fields}
 use Rattle.frame.specs.declared.kinds.Head.{Head}
 use Rattle.frame.specs.declared.kinds.Edge.{Edge}

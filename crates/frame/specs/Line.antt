@@ -7,7 +7,7 @@ use lib.ListN.{length, take, drop, getD}
 use Rattle.base.specs.Answer.{Answer, refused, answer}
 use Rattle.base.specs.Refusals.{FORM}
 use Rattle.frame.specs.Table.{fields, kindOf, widths, total, startOf, lineLength}
-use Rattle.frame.specs.Digits.{allDigits, numberOf, spell}
+use Rattle.digits.specs.Hexadecimal.{allDigits, numberOf, spell}
 use Rattle.frame.specs.declared.line.Fields.{Fields}
 use Rattle.frame.specs.declared.line.Line.{Line}
 use Rattle.frame.specs.declared.line.Line.the-variants.{Frame, Refused}

@@ -1,11 +1,11 @@
 // The frames of each kind, with their fields by name.
 use super::line::ABSENT;
 use super::line::Fields;
-use super::sign::signed_of;
-use super::sign::unsigned_of;
 use super::table::COSTS;
 use super::table::EDGE;
 use super::table::digits_of;
+use digits::signed_of;
+use digits::unsigned_of;
 ghost use mathlib.Core.Path.{_≡_};
 ghost use Prim.Native.Nat.{_*_, _^_, _<_};
 ghost use lib.Signed.{mag};

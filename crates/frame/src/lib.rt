@@ -1,8 +1,6 @@
 // Frames as lines of hexadecimal digits: one table for reader and writer, frames with named fields.
-mod digits;
 mod kinds;
 mod line;
-mod sign;
 mod table;
 
 pub use kinds::Costs;

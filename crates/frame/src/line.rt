@@ -1,19 +1,19 @@
 // Lines: a frame's fields, spelt at the places that the table gives, and a line feed.
-use super::digits::BYTE_VALUES;
-use super::digits::Number;
-use super::digits::digit_values;
-use super::digits::put_number;
-use super::digits::read_number;
 use super::table::FIELDS;
 use super::table::kind_of;
 use super::table::length_of;
 use super::table::start_of;
+use digits::BYTE_VALUES;
+use digits::Number;
+use digits::digit_values;
+use digits::put_number;
+use digits::read_number;
 ghost use mathlib.Core.Path.{_≡_};
 ghost use Prim.Native.Nat.{_+_, _<_, _≤_};
 ghost use lib.ListN.{length, take, drop};
 ghost use Rattle.base.specs.Answer.{over};
 ghost use Rattle.frame.specs.Table.{rows, fields, startOf, digitsOf, lineLength};
-ghost use Rattle.frame.specs.Digits.{digitValues, numberIn, spell};
+ghost use Rattle.digits.specs.Hexadecimal.{digitValues, numberIn, spell};
 ghost use Rattle.frame.specs.Line.{fieldsFrom, listOf, answerOf, lineAt, readLine, fieldsLine, lineOf};
 
 const LINE_FEED: u8 = 10;

@@ -13,7 +13,5 @@ pub mod Checking
 pub mod Backs
 pub mod Condition
 pub mod Numbers
-pub mod Picked
 pub mod Differences
-pub mod Degrees
 pub mod Examples

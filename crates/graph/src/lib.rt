@@ -2,14 +2,10 @@
 use base::EDGE_LIMIT;
 use base::VERTEX_LIMIT;
 
-mod incidence;
 mod kept;
-mod tally;
 
-pub use incidence::Partners;
 pub use kept::Kept;
 pub use kept::lift_marks;
-pub use tally::Degrees;
 ghost use mathlib.Core.Path.{_≡_};
 ghost use Prim.Native.Nat.{_<_};
 ghost use Rattle.graph.specs.Network.{far};

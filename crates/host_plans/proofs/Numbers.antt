@@ -6,11 +6,11 @@ use lib.ListN.{length}
 use Rattle.base.proofs.Bools.{no-answer}
 use Rattle.base.specs.Answer.{Answer, refused, answer, refusalOf, numberGiven}
 use Rattle.graph.specs.declared.Network.{Network}
-use Rattle.thinning.specs.declared.network.Acceptance.{Acceptance}
-use Rattle.thinning.specs.declared.network.Acceptance.the-variants as acceptance
-use Rattle.thinning.specs.declared.planner.Planned.{Planned}
-use Rattle.thinning.specs.declared.planner.Planned.the-variants as planned
-use Rattle.thinning.specs.Services.{Texts, acceptanceOf, plannedOf}
+use Rattle.claim.specs.declared.Acceptance.{Acceptance}
+use Rattle.claim.specs.declared.Acceptance.the-variants as acceptance
+use Rattle.claim.specs.declared.Planned.{Planned}
+use Rattle.claim.specs.declared.Planned.the-variants as planned
+use Rattle.claim.specs.Services.{Texts, acceptanceOf, plannedOf}
 
 -- ── a network that is checked ──
 pub network-refused : (a : Answer Network) (k : ℕ) {r : Acceptance}

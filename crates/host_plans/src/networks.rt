@@ -1,9 +1,9 @@
 // Networks: a network text is checked.
-use thinning::Acceptance;
+use claim::Acceptance;
 use thinning::check_network;
 ghost use mathlib.Core.Path.{_≡_};
 ghost use Rattle.base.specs.Answer.{refusalOf};
-ghost use Rattle.thinning.specs.Services.{acceptNetwork};
+ghost use Rattle.claim.specs.Services.{acceptNetwork};
 
 // Checks a network text.
 #[no_mangle]

@@ -1,12 +1,12 @@
 // Plans: a network text is planned, and a proposed chain is checked.
 use base::Reply;
-use thinning::Planned;
+use claim::Planned;
 use thinning::check_chain;
 use thinning::plan;
 ghost use mathlib.Core.Path.{_≡_};
 ghost use lib.ListN.{length};
 ghost use Rattle.base.specs.Answer.{given, filled, roomIn, after, refusalOf, numberGiven};
-ghost use Rattle.thinning.specs.Services.{checkChainText, planGiven};
+ghost use Rattle.claim.specs.Services.{checkChainText, planGiven};
 
 // Plans a network text into a chain text and a kept text, and gives their lengths.
 #[no_mangle]

@@ -3,5 +3,3 @@ pub mod Reading
 pub mod Listed
 pub mod OneToOne
 pub mod Texts
-pub mod KeptTexts
-pub mod Examples

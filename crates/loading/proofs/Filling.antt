@@ -14,9 +14,9 @@ use Rattle.frame.specs.declared.kinds.Edge.{Edge}
 use Rattle.graph.specs.declared.Network.{Network}
 use Rattle.network_text.specs.Text.{Meaning, readNetwork}
 use Rattle.network_text.specs.Columns.{Columns}
-use Rattle.network_text.specs.Frames.{found, readHead, readEdge}
 use Rattle.network_text.proofs.Reading.{Reading, AllRead, reading-none, reading-refused, reading-next, reading-left}
 use Rattle.network_text.proofs.Reading.{reading-end}
+use Rattle.network_frames.specs.Frames.{found, readHead, readEdge}
 use Rattle.loading.specs.Loading.{stateOf, noEnds, noCosts, networkOf, loadNetwork}
 
 -- the state's columns have room for every network

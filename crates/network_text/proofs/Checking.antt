@@ -12,7 +12,8 @@ use lib.IntN.{ℤ, pos}
 use Rattle.base.specs.Answer.{Answer, refused, answer, andThen, refusalOf}
 use Rattle.base.specs.Refusals.{FORM}
 use Rattle.frame.specs.declared.kinds.Edge.{Edge}
-use Rattle.network_text.specs.Text.{Edges, finished, interrupted, next, edgeRefusal, checked, inColumns}
+use Rattle.network_frames.specs.Frames.{edgeRefusal}
+use Rattle.network_text.specs.Text.{Edges, finished, interrupted, next, checked, inColumns}
 use Rattle.network_text.specs.Columns.{EdgeThere, edgeAt}
 use Rattle.network_text.proofs.Columns.{SomeOf, one-of}
 use Rattle.network_text.proofs.Edges.{Passing, passing-none, passing-end, passing-stop, passing-refused}

@@ -1,63 +1,20 @@
 -- Edges checked one after the other: what is known while the edges so far have passed.
 -- Assumes nothing.
 use mathlib.Core.Path.{_≡_, refl, sym, _∙_, ap}
-use mathlib.Core.Bool.{Bool, true, false, cond, _&&_}
 use mathlib.Core.List.{List, [], _∷_, _++_, append-nil}
-use Prim.Native.Nat.{ℕ, suc, _+_, _*_, _≤_, _<_}
+use Prim.Native.Nat.{ℕ, suc, _+_, _≤_, _<_}
 use native.Mathlib.Omega.{arith}
 use native.Mathlib.Numerals.{add-one}
-use lib.Dec.{ltb, eqb}
 use lib.ListN.{length, length-append}
 use lib.Seq.{append-snoc}
-use borrow.Author.Tests.{ltb-true, eqb-true}
 use Rattle.base.proofs.Answers.{unless-refused, unless-next}
 use Rattle.base.specs.Answer.{Answer, refused, answer, andThen}
-use Rattle.base.specs.Limits.{fewestVertices, vertexLimit, verticesOk, costOk}
-use Rattle.base.specs.Refusals.{FORM, VERTICES, RESERVED, ENDS, COST}
+use Rattle.base.specs.Refusals.{FORM}
 use Rattle.base.proofs.Answers.{then-refused}
-use Rattle.base.proofs.LimitLaws.{vertices-within}
 use Rattle.frame.specs.declared.kinds.Edge.{Edge}
-use Rattle.network_text.specs.Text.{Edges, finished, interrupted, next, headRefusal, edgeRefusal, checked}
+use Rattle.network_frames.specs.Frames.{edgeRefusal}
+use Rattle.network_text.specs.Text.{Edges, finished, interrupted, next, checked}
 
--- what a head and an edge say that are not refused
-pub record HeadPassed (n r : ℕ) : Type 0 where
-  pub many : fewestVertices ≤ n
-  pub few : n ≤ vertexLimit
-  pub inside : r < 2 * n
-
-pub record EdgePassed (n place : ℕ) (e : Edge) : Type 0 where
-  pub numbered : e .number ≡ place
-  pub rising : e .lower < e .higher
-  pub inside : e .higher < n
-  pub limited : costOk (e .cost) ≡ true
-
-pub head-passed : (n r : ℕ) → headRefusal n r ≤ 0 → HeadPassed n r
-unfolding headRefusal
-head-passed n r h = go (verticesOk n) refl (ltb r (2 * n)) refl h
-  where
-    go : (a : Bool) → verticesOk n ≡ a → (b : Bool) → ltb r (2 * n) ≡ b
-        → cond a (cond b 0 RESERVED) VERTICES ≤ 0 → HeadPassed n r
-    go true v true l h =
-        record { many = vertices-within n v .0; few = vertices-within n v .1; inside = ltb-true r (2 * n) l }
-    go true v false l h = absurd (omega arith)
-    go false v b l h = absurd (omega arith)
-
-pub edge-passed : (n place : ℕ) (e : Edge) → edgeRefusal n place e ≤ 0 → EdgePassed n place e
-unfolding edgeRefusal
-edge-passed n place e h =
-    go (eqb (e .number) place) refl (ltb (e .lower) (e .higher)) refl (ltb (e .higher) n) refl (costOk (e .cost)) refl h
-  where
-    go : (a : Bool) → eqb (e .number) place ≡ a → (b : Bool) → ltb (e .lower) (e .higher) ≡ b
-        → (c : Bool) → ltb (e .higher) n ≡ c → (d : Bool) → costOk (e .cost) ≡ d
-        → cond (a && (b && c)) (cond d 0 COST) ENDS ≤ 0 → EdgePassed n place e
-    go true p true q true s true t h =
-        record { numbered = eqb-true _ _ p; rising = ltb-true _ _ q; inside = ltb-true _ _ s; limited = t }
-    go true p true q true s false t h = absurd (omega arith)
-    go true p true q false s d t h = absurd (omega arith)
-    go true p false q c s d t h = absurd (omega arith)
-    go false p b q c s d t h = absurd (omega arith)
-
--- a refusal's number that is one, and that is none
 -- the edges before the i-th have passed, and those that are left decide an answer that is made of all
 pub record Passing {M : Type 0} (a : Answer M) (make : List Edge → M) (n : ℕ) (passed : List Edge) (i : ℕ)
     (rest : Edges) : Type 0 where

@@ -6,15 +6,16 @@ use Prim.Native.Nat.{ℕ}
 use lib.IntN.{pos}
 use Rattle.base.specs.Answer.{answer, andThen, unless, refusalOf}
 use Rattle.frame.specs.Table.{kindOf, padded, bytesOf, total, placeOf, startOf, digitsOf, widths, lineLength}
-use Rattle.frame.specs.Digits.{valueOf, digitOf, allDigits, numberOf, spell}
+use Rattle.digits.specs.Hexadecimal.{valueOf, digitOf, allDigits, numberOf, spell}
 use Rattle.frame.specs.Line.{valuesOf, fieldsOf, isLine}
-use Rattle.frame.specs.Sign.{signedOf}
+use Rattle.digits.specs.Sign.{signedOf}
 use Rattle.frame.specs.Kinds.{costDigits}
 use Rattle.frame.specs.Frames.{framesOf}
 use Rattle.frame.proofs.Examples.{printed as line}
 use Rattle.base.specs.Limits.{verticesOk, costOk}
+use Rattle.network_frames.specs.Frames.{headRefusal, edgeRefusal}
 use Rattle.network_text.proofs.OneToOne.{written-read}
-use Rattle.network_text.specs.Text.{Meaning, headRefusal, edgeRefusal, checked, meaningOf, inFrames, edgesOf}
+use Rattle.network_text.specs.Text.{Meaning, checked, meaningOf, inFrames, edgesOf}
 use Rattle.network_text.specs.Text.{readNetwork, writeNetwork}
 
 -- lines by their digits, in front of what follows

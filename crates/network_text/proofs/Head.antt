@@ -1,48 +1,24 @@
 -- A network text from its head on: the reader by frame, and what its head decides.
 -- Assumes nothing.
 use mathlib.Core.Path.{_≡_, refl, sym, _∙_}
-use mathlib.Core.Bool.{Bool, true, false, cond, _&&_}
+use mathlib.Core.Bool.{Bool, true, false, cond}
 use mathlib.Core.List.{List, [], _∷_}
-use Prim.Native.Nat.{ℕ, zero, suc, _*_, _≤_}
+use Prim.Native.Nat.{ℕ, zero, suc, _*_}
 use native.Mathlib.Omega.{arith}
 use native.Mathlib.Nat.{zero-add}
-use lib.Dec.{eqb, ltb}
 use lib.ListN.{drop}
 use Rattle.base.specs.Answer.{Answer, refused, answer, andThen, unless}
-use Rattle.base.specs.Limits.{verticesOk, costOk}
-use Rattle.base.specs.Refusals.{FORM, VERTICES, RESERVED, ENDS, COST}
+use Rattle.base.specs.Refusals.{FORM, COST}
 use Rattle.base.proofs.Answers.{then-refused, then-answer}
-use Rattle.base.proofs.Bools.{no-answer}
 use Rattle.base.proofs.Numbered.{Numbered, answered, refused-by, unless-numbered, then-numbered}
 use Rattle.frame.specs.Table.{HEAD, lineLength}
-use Rattle.frame.specs.Line.{Placed, placed, isLine, fieldsOf, lineAt, readLine}
+use Rattle.frame.specs.Line.{placed, isLine, fieldsOf, lineAt, readLine}
 use Rattle.frame.specs.Kinds.{headOf}
 use Rattle.frame.specs.declared.kinds.Head.{Head}
-use Rattle.frame.specs.declared.kinds.Edge.{Edge}
-use Rattle.network_text.specs.Text.{Meaning, Edges, finished, interrupted, next, headRefusal, edgeRefusal}
+use Rattle.network_frames.specs.Frames.{headRefusal, edgeRefusal, Found, found, headIn, readHead}
+use Rattle.network_frames.proofs.Passed.{head-small, edge-small}
+use Rattle.network_text.specs.Text.{Meaning, Edges, finished, interrupted, next}
 use Rattle.network_text.specs.Text.{checked, meaningOf, edgesOf, readNetwork}
-use Rattle.network_text.specs.Frames.{Found, found, headIn, readHead}
-use Rattle.network_text.proofs.Edges.{HeadPassed, head-passed}
-
--- the refusals of a network text are those up to an edge's cost
-head-small : (n r : ℕ) → headRefusal n r ≤ COST
-unfolding headRefusal
-head-small n r = go (verticesOk n) (ltb r (2 * n))
-  where
-    go : (a b : Bool) → cond a (cond b 0 RESERVED) VERTICES ≤ COST
-    go true true = omega arith
-    go true false = omega arith
-    go false b = omega arith
-
-edge-small : (n place : ℕ) (e : Edge) → edgeRefusal n place e ≤ COST
-unfolding edgeRefusal
-edge-small n place e =
-    go (eqb (e .number) place && (ltb (e .lower) (e .higher) && ltb (e .higher) n)) (costOk (e .cost))
-  where
-    go : (a b : Bool) → cond a (cond b 0 COST) ENDS ≤ COST
-    go true true = omega arith
-    go true false = omega arith
-    go false b = omega arith
 
 pub checked-numbered : (n place : ℕ) (es : Edges) → Numbered COST (checked n place es)
 unfolding checked
@@ -99,17 +75,3 @@ module _ (t : List ℕ) where
     pub edges-due : readNetwork t ≡ edgesBehind h (drop first t)
     unfolding behind
     edges-due = by-head t ∙ then-answer (readHead t) (behind t) (found h first) (sym x)
-
-    pub head-fine : HeadPassed (h .vertices) (h .reserved)
-    unfolding readHead headIn andThen unless
-    head-fine = go (readLine HEAD t 0) x
-      where
-        -- by the head's own refusal
-        own : (f : Head) (place k : ℕ) → headRefusal (f .vertices) (f .reserved) ≡ k
-            → answer (found h first) ≡ unless k (answer (found f place)) → HeadPassed (h .vertices) (h .reserved)
-        own f place zero e y = let q : f ≡ h = cc in rw (← q) (head-passed (f .vertices) (f .reserved) (omega arith))
-        own f place (suc k) e y = no-answer (cc)
-
-        go : (a : Answer Placed) → answer (found h first) ≡ andThen a headIn → HeadPassed (h .vertices) (h .reserved)
-        go (refused k) y = no-answer (cc)
-        go (answer (placed f place)) y = own (headOf f) place _ refl y

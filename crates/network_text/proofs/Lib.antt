@@ -1,7 +1,6 @@
 pub mod CostField
 pub mod Columns
 pub mod Edges
-pub mod Cases
 pub mod Head
 pub mod Reading
 pub mod Whole

@@ -20,8 +20,9 @@ use Rattle.frame.specs.Kinds.{headOf}
 use Rattle.frame.specs.declared.kinds.Head.{Head}
 use Rattle.frame.proofs.Fronts.{fields-front, line-front, frames-front}
 use Rattle.frame.proofs.Whole.{text-replicate}
-use Rattle.network_text.specs.Text.{headRefusal, inFrames, edgesOf, readNetwork, networkLength}
-use Rattle.network_text.proofs.Edges.{head-passed}
+use Rattle.network_frames.specs.Frames.{headRefusal}
+use Rattle.network_frames.proofs.Passed.{head-passed}
+use Rattle.network_text.specs.Text.{inFrames, edgesOf, readNetwork, networkLength}
 use Rattle.network_text.proofs.Head.{edgesBehind}
 
 -- the number of base is what the table of frames says

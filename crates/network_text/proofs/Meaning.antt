@@ -14,8 +14,9 @@ use Rattle.frame.specs.Line.{isLine, fieldsOf}
 use Rattle.frame.specs.Kinds.{headOf}
 use Rattle.frame.specs.declared.kinds.Head.{Head}
 use Rattle.frame.specs.declared.kinds.Edge.{Edge}
-use Rattle.network_text.specs.Text.{Meaning, Valid, headRefusal, checked, meaningOf, edgesOf, readNetwork}
-use Rattle.network_text.proofs.Edges.{HeadPassed, head-passed}
+use Rattle.network_frames.specs.Frames.{headRefusal}
+use Rattle.network_frames.proofs.Passed.{HeadPassed, head-passed}
+use Rattle.network_text.specs.Text.{Meaning, Valid, checked, meaningOf, edgesOf, readNetwork}
 use Rattle.network_text.proofs.Whole.{AllPassed, complete, valid, Spelt, spelt}
 
 -- a text that starts with the line of a head, and has edges behind it

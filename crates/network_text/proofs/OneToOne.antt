@@ -21,14 +21,15 @@ use Rattle.frame.specs.declared.kinds.Edge.{Edge}
 use Rattle.frame.proofs.Lines.{length-line, line-is, line-rest, line-back, line-fits, fields-found}
 use Rattle.frame.proofs.Named.{edge-found, head-back}
 use Rattle.frame.proofs.Runs.{run-left}
-use Rattle.frame.proofs.Signs.{unsigned-lt}
+use Rattle.digits.proofs.Signs.{unsigned-lt}
 use Rattle.base.specs.Limits.{vertexLimit, edgeLimit, verticesOk}
 use Rattle.base.specs.Refusals.{VERTICES, RESERVED}
-use Rattle.network_text.specs.Text.{Meaning, meant, Edges, finished, interrupted, next, headRefusal, checked}
+use Rattle.network_frames.specs.Frames.{headRefusal}
+use Rattle.network_frames.proofs.Passed.{HeadPassed, EdgePassed, head-passed}
+use Rattle.network_text.specs.Text.{Meaning, meant, Edges, finished, interrupted, next, checked}
 use Rattle.network_text.specs.Text.{meaningOf, inFrames, edgesOf, readNetwork, inColumns, edgesIn, edgesText}
 use Rattle.network_text.specs.Text.{networkText, writeNetwork, textOf, EdgeSpellable, AllSpellable, Spellable}
 use Rattle.network_text.proofs.CostField.{cost-spelt}
-use Rattle.network_text.proofs.Edges.{HeadPassed, EdgePassed, head-passed}
 use Rattle.network_text.proofs.Whole.{AllPassed, complete}
 use Rattle.network_text.proofs.Texts.{full, head-turned-down, edges-turned-down, whole}
 use Rattle.network_text.proofs.Writing.{length-edges}

@@ -19,16 +19,17 @@ use Rattle.frame.specs.declared.line.Fields.{Fields}
 use Rattle.frame.specs.declared.kinds.Head.{Head}
 use Rattle.frame.specs.declared.kinds.Edge.{Edge}
 use Rattle.frame.proofs.Runs.{next-read, run-next, run-broken, run-left, run-done}
-use Rattle.network_text.specs.Text.{Meaning, Edges, next, interrupted, edgeRefusal, checked, meaningOf, inFrames}
+use Rattle.network_frames.specs.Frames.{edgeRefusal, found, readHead, edgeIn, readEdge}
+use Rattle.network_frames.proofs.Passed.{HeadPassed, EdgePassed, edge-passed, head-fine}
+use Rattle.network_text.specs.Text.{Meaning, Edges, next, interrupted, checked, meaningOf, inFrames}
 use Rattle.network_text.specs.Text.{edgesOf, readNetwork, readReply}
-use Rattle.network_text.specs.Frames.{found, readHead, edgeIn, readEdge}
 use Rattle.network_text.specs.Columns.{Columns, NetworkRead}
 use Rattle.network_text.specs.declared.network.ReadNetwork.the-variants.{Read, Refused}
 use Rattle.network_text.proofs.Columns.{part-next}
-use Rattle.network_text.proofs.Edges.{HeadPassed, EdgePassed, edge-passed, Passing, Goes, passing-none}
+use Rattle.network_text.proofs.Edges.{Passing, Goes, passing-none}
 use Rattle.network_text.proofs.Edges.{passing-end, passing-stop, passing-refused, passing-next, edge-stops}
 use Rattle.network_text.proofs.Edges.{edge-goes}
-use Rattle.network_text.proofs.Head.{edges-due, head-fine}
+use Rattle.network_text.proofs.Head.{edges-due}
 
 -- the edges that are left of a text, from a place and from the i-th on
 abbrev left : ℕ → List ℕ → ℕ → ℕ → Edges

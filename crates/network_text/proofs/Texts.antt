@@ -13,9 +13,10 @@ use Rattle.frame.specs.Line.{lineOf}
 use Rattle.frame.specs.Kinds.{ofHead}
 use Rattle.frame.specs.declared.kinds.Edge.{Edge}
 use Rattle.frame.proofs.Lines.{length-line}
-use Rattle.network_text.specs.Text.{Valid, meant, Edges, interrupted, headRefusal, checked, meaningOf, inColumns}
+use Rattle.network_frames.specs.Frames.{headRefusal}
+use Rattle.network_frames.proofs.Passed.{head-passed}
+use Rattle.network_text.specs.Text.{Valid, meant, Edges, interrupted, checked, meaningOf, inColumns}
 use Rattle.network_text.specs.Text.{edgesIn, edgesText, networkText, networkLength, writeNetwork}
-use Rattle.network_text.proofs.Edges.{head-passed}
 use Rattle.base.proofs.Answers.{unless-refused, unless-next}
 use Rattle.network_text.proofs.Head.{checked-numbered}
 use Rattle.network_text.proofs.Whole.{allOf, AllPassed, complete, valid}

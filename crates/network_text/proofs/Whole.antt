@@ -16,9 +16,10 @@ use Rattle.frame.specs.declared.line.Fields.{Fields}
 use Rattle.frame.specs.declared.kinds.Edge.{Edge}
 use Rattle.frame.proofs.Whole.{whole, fit-count}
 use Rattle.frame.proofs.Named.{edge-back}
-use Rattle.network_text.specs.Text.{Valid, Edges, finished, interrupted, next, edgeRefusal, checked, meaningOf}
+use Rattle.network_frames.specs.Frames.{edgeRefusal}
+use Rattle.network_frames.proofs.Passed.{HeadPassed, EdgePassed, edge-passed}
+use Rattle.network_text.specs.Text.{Valid, Edges, finished, interrupted, next, checked, meaningOf}
 use Rattle.network_text.specs.Text.{inFrames, edgesOf}
-use Rattle.network_text.proofs.Edges.{HeadPassed, EdgePassed, edge-passed}
 
 -- edges with nothing missing and nothing left over
 unfoldable pub allOf : List Edge → Edges

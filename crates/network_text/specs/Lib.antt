@@ -1,4 +1,3 @@
 pub mod Text
-pub mod Frames
 pub mod Columns
 pub mod OneToOne

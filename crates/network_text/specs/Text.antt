@@ -3,18 +3,18 @@ use mathlib.Core.Path.{_≡_}
 use mathlib.Core.Bool.{Bool, true, cond, _&&_}
 use mathlib.Core.List.{List, [], _∷_, _++_, map}
 use Prim.Native.Nat.{ℕ, zero, suc, _+_, _*_, _^_, _≤_, _<_}
-use lib.Dec.{ltb, eqb}
 use lib.ListN.{length, drop, getD, replicate}
 use lib.IntN.{ℤ, pos}
 use lib.Signed.{mag}
 use Rattle.base.specs.Answer.{Answer, refused, answer, andThen, given, roomIn, unless}
-use Rattle.base.specs.Limits.{fewestVertices, vertexLimit, verticesOk, costOk}
-use Rattle.base.specs.Refusals.{FORM, VERTICES, RESERVED, ENDS, COST}
+use Rattle.base.specs.Limits.{fewestVertices, vertexLimit, costOk}
+use Rattle.base.specs.Refusals.{FORM}
 use Rattle.frame.specs.Table.{HEAD, EDGE, lineLength}
 use Rattle.frame.specs.Line.{isLine, fieldsOf, lineOf, Fits}
 use Rattle.frame.specs.Kinds.{headOf, ofHead, costDigits, edgeOf, ofEdge}
 use Rattle.frame.specs.Frames.{Frames, done, broken, frame, framesOf, linesOf}
 use Rattle.frame.specs.declared.kinds.Edge.{Edge}
+use Rattle.network_frames.specs.Frames.{headRefusal, edgeRefusal}
 use Rattle.network_text.specs.declared.network.ReadNetwork.{ReadNetwork}
 use Rattle.network_text.specs.declared.network.ReadNetwork.the-variants.{Read, Refused}
 
@@ -47,17 +47,6 @@ pub record Valid (m : Meaning) : Type 0 where
 pub data Edges : Type 0 where
   finished interrupted : Edges
   next : Edge → Edges → Edges
-
--- refusals 2 and 3 of a head
-unfoldable pub headRefusal : ℕ → ℕ → ℕ
-headRefusal n r = cond (verticesOk n) (cond (ltb r (2 * n)) 0 RESERVED) VERTICES
-
--- refusals 4 and 5 of the edge at a place
-unfoldable pub edgeRefusal : ℕ → ℕ → Edge → ℕ
-edgeRefusal n place e =
-    cond (eqb (e .number) place && (ltb (e .lower) (e .higher) && ltb (e .higher) n))
-    (cond (costOk (e .cost)) 0 COST)
-    ENDS
 
 -- the edges from a place on, with the first refusal
 unfoldable pub checked : ℕ → ℕ → Edges → Answer (List Edge)

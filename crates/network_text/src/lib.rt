@@ -1,11 +1,6 @@
-// Network texts: read frame by frame, read into columns, and written from columns.
-mod frames;
+// Network texts: read into columns, and written from columns.
 mod network;
 
-pub use frames::ReadEdge;
-pub use frames::ReadHead;
-pub use frames::read_edge;
-pub use frames::read_head;
 pub use network::ReadNetwork;
 pub use network::read_network;
 pub use network::write_network;

@@ -1,10 +1,4 @@
 // Network texts: read into columns, and written from them.
-use super::frames::ReadEdge;
-use super::frames::ReadHead;
-use super::frames::edge_refusal;
-use super::frames::head_refusal;
-use super::frames::read_edge;
-use super::frames::read_head;
 use base::EDGE_LIMIT;
 use base::FORM;
 use base::Reply;
@@ -17,6 +11,12 @@ use frame::HEAD;
 use frame::Head;
 use frame::length_of;
 use frame::put_line;
+use network_frames::ReadEdge;
+use network_frames::ReadHead;
+use network_frames::edge_refusal;
+use network_frames::head_refusal;
+use network_frames::read_edge;
+use network_frames::read_head;
 ghost use mathlib.Core.Path.{_≡_};
 ghost use Prim.Native.Nat.{_*_, _≤_};
 ghost use lib.ListN.{length};

@@ -7,9 +7,9 @@ use lib.ListN.{length}
 use Rattle.base.proofs.Bools.{no-answer}
 use Rattle.base.specs.Answer.{Answer, refused, answer}
 use Rattle.base.specs.Lengths.{longestKept, longestChain}
-use Rattle.thinning.specs.declared.planner.Planned.the-variants.{Written}
-use Rattle.thinning.specs.Services.{Texts, planText, plannedOf}
-use Rattle.thinning.proofs.Longest.{plan-lengths}
+use Rattle.claim.specs.declared.Planned.the-variants.{Written}
+use Rattle.claim.specs.Services.{Texts, planText, plannedOf}
+use Rattle.claim.proofs.Longest.{plan-lengths}
 
 pub written-short : (network : List ℕ) (c k : ℕ) → Written c k ≡ plannedOf (planText network)
     → (c ≤ longestChain) × (k ≤ longestKept)

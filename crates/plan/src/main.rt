@@ -3,10 +3,10 @@ use base::LONGEST_CHAIN;
 use base::LONGEST_KEPT;
 use base::LONGEST_NETWORK;
 use base::Reply;
+use claim::Planned;
+use kept_text::write_refusal;
 use libc::STDIN_FILENO;
 use libc::STDOUT_FILENO;
-use list_text::write_refusal;
-use thinning::Planned;
 use thinning::plan;
 ghost use mathlib.Core.Path.{_≡_};
 ghost use Prim.Native.Nat.{_≤_, _<_};
@@ -14,7 +14,7 @@ ghost use lib.ListN.{length};
 ghost use Rattle.io.specs.Counts.{Counts};
 ghost use Rattle.base.specs.Answer.{filled};
 ghost use Rattle.base.specs.Lengths.{longestNetwork, longestKept, longestChain};
-ghost use Rattle.thinning.specs.Services.{planText, plannedOf};
+ghost use Rattle.claim.specs.Services.{planText, plannedOf};
 
 // One byte more than the longest network text has: a longer input is answered as these bytes are (the laws
 // `first-bytes` of crate network_text and `plan-first` of crate thinning).

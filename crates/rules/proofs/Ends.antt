@@ -15,10 +15,10 @@ use Rattle.graph.specs.Network.{lowEnd, costOf}
 use Rattle.graph.specs.Split.{partners}
 use Rattle.graph.specs.Chain.{lastEdges, dearest, endRefusal, marks, endKept}
 use Rattle.graph.specs.Plan.{dearestOf, chosenDrop}
-use Rattle.graph.specs.State.{firstThree}
+use Rattle.incidence.specs.Partners.{firstThree}
 use Rattle.base.specs.Limits.{edgeLimit}
 use Rattle.graph.specs.declared.Network.{Network}
-use Rattle.graph.specs.declared.incidence.Partners.{Partners}
+use Rattle.incidence.specs.declared.partners.Partners.{Partners}
 use Rattle.base.proofs.Bools.{eqb-self, eqb-no, eqb-is}
 use Rattle.base.proofs.Sums.{tabulate-length, tabulate-at}
 use Rattle.base.proofs.Integers.{le-test, le-is, lt-is, lt-isnt}

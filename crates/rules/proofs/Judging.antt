@@ -12,13 +12,13 @@ use Rattle.graph.specs.Split.{partners, admissible, third}
 use Rattle.graph.specs.Chain.{stepRefusal}
 use Rattle.graph.specs.declared.Network.{Network}
 use Rattle.graph.specs.declared.Step.{Step}
-use Rattle.graph.specs.declared.incidence.Partners.{Partners}
+use Rattle.incidence.specs.declared.partners.Partners.{Partners}
 use Rattle.base.proofs.Bools.{no-answer, eqb-is}
 use Rattle.graph.proofs.Stars.{Star, swap-first, swap-others}
 use Rattle.graph.proofs.Partners.{first-others, second-others, third-others, among-without}
 use Rattle.rules.specs.declared.judge.Judged.the-variants.{ByRule, Refused}
 use Rattle.rules.specs.declared.others.Others.the-variants.{Two, None}
-use Rattle.flow.specs.Partnered.{Partnered}
+use Rattle.cuts.specs.Partnered.{Partnered}
 use Rattle.rules.specs.Running.{Running}
 use Rattle.rules.specs.Others.{othersOf}
 use Rattle.rules.specs.Judgements.{judgedBy, judgedOf}

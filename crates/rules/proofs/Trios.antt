@@ -8,15 +8,16 @@ use native.Mathlib.Omega.{arith}
 use Rattle.base.specs.Fold.{only, without, among}
 use Rattle.graph.specs.Network.{here, touches, far}
 use Rattle.graph.specs.Split.{partners, third}
-use Rattle.graph.specs.State.{Splittable, firstThree}
+use Rattle.graph.specs.State.{Splittable}
+use Rattle.incidence.specs.Partners.{firstThree}
 use Rattle.graph.specs.declared.Network.{Network}
 use Rattle.graph.specs.declared.Step.{Step}
-use Rattle.graph.specs.declared.incidence.Partners.{Partners}
+use Rattle.incidence.specs.declared.partners.Partners.{Partners}
 use Rattle.base.proofs.Bools.{eqb-self, eqb-no}
 use Rattle.graph.proofs.Stars.{Star}
 use Rattle.graph.proofs.Partners.{another, three-partners, star, first-others, second-others}
 use Rattle.graph.proofs.Rules.{end-here}
-use Rattle.flow.specs.Partnered.{Partnered}
+use Rattle.cuts.specs.Partnered.{Partnered}
 use Rattle.rules.specs.Running.{Running, Costed}
 
 -- x, y and z are the partners at v, in rising order

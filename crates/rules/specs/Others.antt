@@ -2,7 +2,7 @@
 use mathlib.Core.Bool.{cond}
 use Prim.Native.Nat.{ℕ}
 use lib.Dec.{eqb}
-use Rattle.graph.specs.declared.incidence.Partners.{Partners}
+use Rattle.incidence.specs.declared.partners.Partners.{Partners}
 use Rattle.rules.specs.declared.others.Others.{Others}
 use Rattle.rules.specs.declared.others.Others.the-variants.{Two, None}
 

@@ -1,5 +1,6 @@
 // The planner's choice of a step: a pair of partners, and which of them costs more.
 use graph::Network;
+use incidence::partners_at;
 ghost use mathlib.Core.Path.{_≡_};
 ghost use Rattle.graph.specs.Plan.{chosenVertex, chosenPair, chosenStep};
 ghost use Rattle.rules.specs.Running.{Running, Costed};
@@ -39,11 +40,11 @@ pub fn chosen_pair(network: Network) -> Pair
     ensures { λ r. ⌜ r ≡ pairOf network (chosenPair network) ⌝ }
 {
     let v = chosen_vertex(network);
-    let partners = network.partners(v);
+    let partners = partners_at(network, v);
     let first = partners.first;
     let second = partners.second;
     let third = partners.third;
-    if !flow::admissible(network, v, first, second, third) {
+    if !cuts::admissible(network, v, first, second, third) {
         return Pair {
             v,
             low: second,
@@ -51,7 +52,7 @@ pub fn chosen_pair(network: Network) -> Pair
             z: first,
         };
     }
-    if flow::admissible(network, v, second, first, third) {
+    if cuts::admissible(network, v, second, first, third) {
         return Pair {
             v,
             low: first,

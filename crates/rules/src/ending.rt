@@ -6,11 +6,13 @@ use base::EDGE_LIMIT;
 use base::NOT_DEAREST;
 use graph::Kept;
 use graph::Network;
-use graph::Partners;
+use incidence::Partners;
+use incidence::partners_at;
 ghost use mathlib.Core.Path.{_≡_};
 ghost use Prim.Native.Nat.{_<_};
 ghost use Rattle.graph.specs.Chain.{lastEdges};
-ghost use Rattle.graph.specs.State.{firstThree, noMarks};
+ghost use Rattle.graph.specs.State.{noMarks};
+ghost use Rattle.incidence.specs.Partners.{firstThree};
 ghost use Rattle.base.specs.Limits.{edgeLimit};
 ghost use Rattle.rules.specs.Running.{Last};
 ghost use Rattle.rules.specs.Endings.{endedOf, chosenEnding, twoMarked};
@@ -35,7 +37,7 @@ fn last_three(network: Network) -> Partners
 {
     let reserved = network.reserved;
     let v = network.low[reserved];
-    network.partners(v)
+    partners_at(network, v)
 }
 
 // The ending that drops d: refusal 12, or the two edges that it keeps.

@@ -7,6 +7,7 @@ use base::NO_END;
 use base::NO_PARTNER;
 use base::NOT_ADMISSIBLE;
 use graph::Network;
+use incidence::partners_at;
 ghost use mathlib.Core.Bool.{true};
 ghost use mathlib.Core.Path.{_≡_};
 ghost use Rattle.graph.specs.Network.{touches};
@@ -24,7 +25,7 @@ fn judge_at(network: Network, v: u8, x: usize, y: usize) -> Judged
     requires { ⌜ Running network × (touches network v (network .reserved) ≡ true) ⌝ }
     ensures { λ r. ⌜ r ≡ judgedOf network (record { v = v; x = x; y = y }) ⌝ }
 {
-    let partners = network.partners(v);
+    let partners = partners_at(network, v);
     let Others::Two(x_low, x_high) = others_than(partners, x) else {
         return Judged::Refused(NO_PARTNER);
     };
@@ -34,10 +35,10 @@ fn judge_at(network: Network, v: u8, x: usize, y: usize) -> Judged
     if x == y {
         return Judged::Refused(NO_PARTNER);
     }
-    if !flow::admissible(network, v, x, x_low, x_high) {
+    if !cuts::admissible(network, v, x, x_low, x_high) {
         return Judged::Refused(NOT_ADMISSIBLE);
     }
-    if !flow::admissible(network, v, y, y_low, y_high) {
+    if !cuts::admissible(network, v, y, y_low, y_high) {
         return Judged::Refused(NOT_ADMISSIBLE);
     }
     if cheaper(network, x, y) {

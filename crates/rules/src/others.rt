@@ -1,6 +1,6 @@
 // The other two of three edges, and which of two edges is cheaper.
 use graph::Network;
-use graph::Partners;
+use incidence::Partners;
 ghost use mathlib.Core.Path.{_≡_};
 ghost use lib.Signed.{ltZ};
 ghost use Rattle.graph.specs.Network.{costOf};

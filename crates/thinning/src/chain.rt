@@ -18,7 +18,7 @@ ghost use Prim.Native.Nat.{_-_};
 ghost use lib.ListN.{drop};
 ghost use Rattle.rules.specs.Running.{Running, Last};
 ghost use Rattle.graph.specs.State.{noMarks};
-ghost use Rattle.thinning.specs.Verdicts.{checkEnding, checkChain, marksAfter};
+ghost use Rattle.claim.specs.Verdicts.{checkEnding, checkChain, marksAfter};
 ghost use Rattle.base.specs.Answer.{refusalOf};
 
 // The ending that stands at a place of a chain, with nothing behind it: a refusal, or 0 and the marks of what is kept.

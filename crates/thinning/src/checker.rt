@@ -6,7 +6,7 @@ use base::EDGE_LIMIT;
 use base::Reply;
 use graph::Kept;
 ghost use mathlib.Core.Path.{_≡_};
-ghost use Rattle.thinning.specs.Services.{chainReply, keptAfter};
+ghost use Rattle.claim.specs.Services.{chainReply, keptAfter};
 
 // Checks any bytes proposed as a chain over a network text, and writes the
 // kept text: the network's refusals, then the chain's, then 13.

@@ -2,13 +2,13 @@
 use base::Reply;
 use graph::Kept;
 use graph::Network;
-use list_text::write_kept;
+use kept_text::write_kept;
 use rules::all_but_reserved;
 use rules::kept_cost;
 ghost use mathlib.Core.Path.{_≡_};
 ghost use Rattle.base.specs.Answer.{answer, replyOf, after};
 ghost use Rattle.rules.specs.Running.{Keeping};
-ghost use Rattle.thinning.specs.Services.{keptTextOf};
+ghost use Rattle.claim.specs.Services.{keptTextOf};
 
 // Writes the kept text of marked edges to the start of `text`, if there is room.
 pub fn put_kept(network: Network, kept: Kept, text: &mut [u8]) -> Reply

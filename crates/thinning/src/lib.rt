@@ -6,7 +6,5 @@ mod network;
 mod planner;
 
 pub use checker::check_chain;
-pub use network::Acceptance;
 pub use network::check_network;
-pub use planner::Planned;
 pub use planner::plan;

@@ -1,6 +1,8 @@
 // The network check.
-use flow::every_cut_four;
+use claim::Acceptance;
+use cuts::every_cut_four;
 use graph::Network;
+use incidence::four_each;
 use loading::Loaded;
 use loading::load;
 use loading::nothing;
@@ -8,22 +10,16 @@ ghost use mathlib.Core.Path.{_≡_};
 ghost use Rattle.graph.specs.Cut.{networkRefusal};
 ghost use Rattle.loading.specs.Known.{Known};
 ghost use Rattle.loading.specs.Loading.{loadedOf};
-ghost use Rattle.thinning.specs.Services.{acceptNetwork, acceptanceOf};
+ghost use Rattle.claim.specs.Services.{acceptNetwork, acceptanceOf};
 use base::CUT;
 use base::DEGREE;
-
-// What the network check answers.
-pub enum Acceptance {
-    Accepted,
-    Refused(u8),
-}
 
 // Refusals 6 and 7 of a network that reads, or 0.
 fn network_refusal(network: Network) -> u8
     requires { ⌜ Known network ⌝ }
     ensures { λ r. ⌜ r ≡ networkRefusal network ⌝ }
 {
-    if !network.four_each() {
+    if !four_each(network) {
         return DEGREE;
     }
     if !every_cut_four(network) {

@@ -6,20 +6,15 @@ use base::SHORT;
 use base::STEP_LIMIT;
 use chain_text::chain_length;
 use chain_text::put_chain;
+use claim::Planned;
 use graph::Network;
-use list_text::kept_length;
+use kept_text::kept_length;
 use rules::Plan;
 use rules::plan_steps;
 ghost use mathlib.Core.Path.{_≡_};
-ghost use Prim.Native.Nat.{_-_, _≤_};
+ghost use Prim.Native.Nat.{_-_};
 ghost use Rattle.base.specs.Answer.{filled};
-ghost use Rattle.thinning.specs.Services.{plannedOf, textsGiven, planReply, plannedChain, plannedKept, Planning};
-
-// What planning answers: the lengths of the two texts, or a refusal.
-pub enum Planned {
-    Written { chain: usize, kept: usize },
-    Refused(u8),
-}
+ghost use Rattle.claim.specs.Services.{plannedOf, textsGiven, planReply, plannedChain, plannedKept, Planning};
 
 // Writes the texts of a plan whose steps stand in columns, if both buffers have room.
 fn hand_over(

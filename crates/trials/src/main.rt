@@ -3,8 +3,8 @@ use audit::Audited;
 use audit::audit_list;
 use base::LONGEST_KEPT;
 use base::Reply;
+use claim::Acceptance;
 use libc::STDOUT_FILENO;
-use thinning::Acceptance;
 use thinning::check_chain;
 use thinning::check_network;
 

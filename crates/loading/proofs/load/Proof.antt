@@ -5,11 +5,11 @@ use native.Mathlib.Omega.{arith}
 use mir.Facts.{toZ-ofZ}
 use borrow.Author.Needs.{needs}
 use Rattle.base.specs.Answer.{answer}
-use Rattle.network_text.specs.Frames.{found, readHead, readEdge}
-use Rattle.network_text.proofs.Cases.{head-as, head-number, edge-as, edge-number}
-use Rattle.network_text.proofs.Edges.{EdgePassed}
-use Rattle.network_text.proofs.Head.{head-refused, head-fine}
+use Rattle.network_frames.proofs.Cases.{head-as, head-number, edge-as, edge-number}
+use Rattle.network_text.proofs.Head.{head-refused}
 use Rattle.network_text.proofs.Reading.{edge-found}
+use Rattle.network_frames.specs.Frames.{found, readHead, readEdge}
+use Rattle.network_frames.proofs.Passed.{EdgePassed, head-fine}
 use Rattle.loading.specs.Loading.{loadedOf}
 use Rattle.loading.proofs.Filling.{refused-network, Filling, filling-none, filling-refused, filling-next}
 use Rattle.loading.proofs.Filling.{filling-left, filling-end}

@@ -2,8 +2,8 @@
 use mathlib.Core.Path.{_∙_, ap}
 use borrow.Author.Needs.{needs}
 use Rattle.base.specs.Answer.{filled}
-use Rattle.thinning.specs.Services.{plannedOf}
-use Rattle.thinning.proofs.Longest.{every-plan-fits}
+use Rattle.claim.specs.Services.{plannedOf}
+use Rattle.claim.proofs.Longest.{every-plan-fits}
 use Rattle.plan.proofs.plan_roomy.Statement.{statement}
 use Rattle.plan.proofs.plan_roomy.Tie as tie
 

@@ -10,8 +10,8 @@ Inv-loop degrees vertices v₀ v = v ≤ vertices
 abbrev μ-loop : tie.MeasureT-loop
 μ-loop degrees vertices v₀ v = vertices - v
 
-degrees-requires : tie.Need-degrees-requires Inv-loop μ-loop
-degrees-requires c κs = search needs
+degrees-of-requires : tie.Need-degrees-of-requires Inv-loop μ-loop
+degrees-of-requires c κs = search needs
 
 slice-aggregate-text : tie.Need-slice-aggregate-text Inv-loop μ-loop
 slice-aggregate-text c = search needs
@@ -55,7 +55,7 @@ ports-spec =
     (tie.spec
     Inv-loop
     μ-loop
-    degrees-requires
+    degrees-of-requires
     slice-aggregate-text
     text-requires
     loop-holds

@@ -6,7 +6,7 @@ use native.Mathlib.Omega.{arith}
 use mir.Syntax.{w64}
 use mir.Val.{Fits}
 use borrow.Author.Needs.{needs}
-use Rattle.frame.specs.Digits.{byteValues}
+use Rattle.digits.specs.Hexadecimal.{byteValues}
 use Rattle.frame.proofs.Rows.{laidOut, laid-entry, entry-small}
 use Rattle.frame.proofs.table.entry.Statement.{statement}
 use Rattle.frame.proofs.table.entry.Tie as tie

@@ -5,9 +5,9 @@ use native.Mathlib.Omega.{arith}
 use mir.Facts.{toZ-ofZ}
 use borrow.Author.Needs.{needs}
 use Rattle.base.specs.Answer.{answer}
-use Rattle.network_text.specs.Frames.{found, readEdge}
-use Rattle.network_text.proofs.Edges.{EdgePassed}
-use Rattle.network_text.proofs.Cases.{head-as, head-number, edge-as, edge-number}
+use Rattle.network_frames.proofs.Cases.{head-as, head-number, edge-as, edge-number}
+use Rattle.network_frames.specs.Frames.{found, readEdge}
+use Rattle.network_frames.proofs.Passed.{EdgePassed}
 use Rattle.network_text.proofs.Head.{head-refused}
 use Rattle.network_text.proofs.Reading.{Reading, edge-found, reading-none, reading-refused, reading-next}
 use Rattle.network_text.proofs.Reading.{reading-left, reading-end, columns-untouched, columns-refused}

@@ -5,8 +5,9 @@ use native.Mathlib.Omega.{arith}
 use lib.ListN.{length}
 use Rattle.frame.specs.Table.{lineLength, startOf, placeOf, total, bytesOf, padded}
 use Rattle.base.proofs.Answers.{refuses, fits, short}
-use Rattle.network_text.specs.Text.{headRefusal, edgesIn, networkText, networkLength}
-use Rattle.network_text.proofs.Edges.{head-passed}
+use Rattle.network_frames.specs.Frames.{headRefusal}
+use Rattle.network_frames.proofs.Passed.{head-passed}
+use Rattle.network_text.specs.Text.{edgesIn, networkText, networkLength}
 use Rattle.network_text.proofs.Texts.{head-turned-down, edges-turned-down, Whole, whole}
 use borrow.Author.Needs.{needs}
 use Rattle.network_text.proofs.network.write_network.Statement.{statement}

@@ -2,7 +2,6 @@
 use mathlib.Core.Path.{sym, _∙_}
 use borrow.Author.Needs.{needs}
 use borrow.Author.Tests.{not-true, not-false}
-use Rattle.graph.specs.Split.{partners}
 use Rattle.graph.proofs.Plans.{chosen-end}
 use Rattle.rules.proofs.Trios.{Trio, trio, first-tested, second-tested}
 use Rattle.rules.proofs.Choices.{chosen-later, chosen-first, chosen-outer}
@@ -10,19 +9,19 @@ use Rattle.rules.proofs.choice.chosen_pair.Statement.{statement}
 use Rattle.rules.proofs.choice.chosen_pair.Tie as tie
 
 -- the partners that were found
-found : (c : tie.After-partners) → let p = c .partners .result in
+found : (c : tie.After-partners-at) → let p = c .partners-at .result in
     Trio (c .before .before .args .network) (c .before .chosen-vertex .result) (p .first) (p .second) (p .third)
 found c =
     let g = c .before .before .args .network in
     let v = c .before .chosen-vertex .ensures in
-    trio (c .before .before .pre) (c .before .chosen-vertex .result) (rw v (chosen-end g)) (c .partners .result)
-    (c .partners .ensures)
+    trio (c .before .before .pre) (c .before .chosen-vertex .result) (rw v (chosen-end g)) (c .partners-at .result)
+    (c .partners-at .ensures)
 
 chosen-vertex-requires : tie.Need-chosen-vertex-requires
 chosen-vertex-requires c κs = search needs
 
-partners-requires : tie.Need-partners-requires
-partners-requires c κs = search needs
+partners-at-requires : tie.Need-partners-at-requires
+partners-at-requires c κs = search needs
 
 admissible-requires : tie.Need-admissible-requires
 admissible-requires c κs = first-tested (c .before .before .pre) (found c)
@@ -57,7 +56,7 @@ chosen-pair-spec =
     tie.close
     (tie.spec
     chosen-vertex-requires
-    partners-requires
+    partners-at-requires
     admissible-requires
     returns
     admissible-requires-2

@@ -18,16 +18,16 @@ use Rattle.rules.proofs.judge.judge_at.Tie as tie
 abbrev judged : tie.Start → Step
 judged c = record { v = c .args .v; x = c .args .x; y = c .args .y }
 
-found : (c : tie.After-partners) → let p = c .partners .result in
+found : (c : tie.After-partners-at) → let p = c .partners-at .result in
     Trio (c .before .args .network) (c .before .args .v) (p .first) (p .second) (p .third)
-found c = trio (c .before .pre .0) (c .before .args .v) (c .before .pre .1) (c .partners .result) (c .partners .ensures)
+found c = trio (c .before .pre .0) (c .before .args .v) (c .before .pre .1) (c .partners-at .result) (c .partners-at .ensures)
 
 -- x and the others, where x is a partner
 named-x : (c : tie.After-known-told) → let a = c .before .before .before .before .before .args in
     Named (a .network) (a .v) (a .x) (c .before .x-low .given .0 .0) (c .before .x-low .given .0 .1 .0)
 named-x c =
     let o = c .before .before .before in
-    others-found (o .before .partners .result) (found (o .before)) (o .before .before .args .x)
+    others-found (o .before .partners-at .result) (found (o .before)) (o .before .before .args .x)
     (sym (o .others-than .ensures) ∙ c .before .x-low .given .1)
 
 -- the place where x is known, and the entry, from the place where y is known too
@@ -42,11 +42,11 @@ named-y : (c : tie.After-known-told2) → let a = entry c .args in
 named-y c =
     let o = c .before .before .before in
     let p = x-known c .before .before .before .before in
-    others-found (p .partners .result) (found p) (entry c .args .y)
+    others-found (p .partners-at .result) (found p) (entry c .args .y)
     (sym (o .others-than2 .ensures) ∙ c .before .y-low .given .1)
 
-partners-requires : tie.Need-partners-requires
-partners-requires c κs = search needs
+partners-at-requires : tie.Need-partners-at-requires
+partners-at-requires c κs = search needs
 
 others-than-requires : tie.Need-others-than-requires
 others-than-requires c κs = search needs
@@ -62,7 +62,7 @@ returns c =
     let o = c .before .before in
     let a = o .before .before in
     no-partner-x (a .args .network) (judged a) (a .pre .1)
-    (others-missing (o .before .partners .result) (found (o .before)) (a .args .x)
+    (others-missing (o .before .partners-at .result) (found (o .before)) (a .args .x)
     (sym (o .others-than .ensures) ∙ c .enum-told .given .1))
 
 others-than-requires-2 : tie.Need-others-than-requires-2
@@ -81,7 +81,7 @@ returns-2 c =
     let p = k .before .before .before .before in
     let a = p .before in
     no-partner-y (a .args .network) (judged a) (a .pre .1) (named-x k .x-in)
-    (others-missing (p .partners .result) (found p) (a .args .y)
+    (others-missing (p .partners-at .result) (found p) (a .args .y)
     (sym (o .others-than2 .ensures) ∙ c .enum-told2 .given .1))
 
 returns-3 : tie.Need-returns-3
@@ -173,7 +173,7 @@ pub judge-at-spec : {M : Type 1} → statement M
 judge-at-spec =
     tie.close
     (tie.spec
-    partners-requires
+    partners-at-requires
     others-than-requires
     enum-known-x-low
     enum-told

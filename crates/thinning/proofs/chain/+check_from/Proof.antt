@@ -15,10 +15,10 @@ use Rattle.graph.specs.Chain.{stepRefusal, lifted}
 use Rattle.graph.specs.State.{Splittable}
 use Rattle.graph.specs.declared.Step.{Step}
 use Rattle.rules.proofs.Steps.{judged-rule, judged-refused, step-splittable, running-after, v-below, fewer}
-use Rattle.thinning.specs.Verdicts.{stepIn, checkChain}
-use Rattle.thinning.proofs.Chains.{refused-leaves, kept-leaves, was-refused, was-kept, lifted-refused}
-use Rattle.thinning.proofs.Chains.{lifted-kept, chain-end, chain-at-broken, chain-at-refused, chain-at-more}
-use Rattle.thinning.proofs.Meets.{chain-numbered}
+use Rattle.claim.specs.Verdicts.{stepIn, checkChain}
+use Rattle.claim.proofs.Chains.{refused-leaves, kept-leaves, was-refused, was-kept, lifted-refused}
+use Rattle.claim.proofs.Chains.{lifted-kept, chain-end, chain-at-broken, chain-at-refused, chain-at-more}
+use Rattle.claim.proofs.Meets.{chain-numbered}
 use Rattle.thinning.proofs.chain.check_from.Reads as check-from
 use Rattle.thinning.proofs.chain.check_from.Kinds as check-from-kinds
 use Rattle.thinning.proofs.chain.+check_from.Lts-check_from as lts

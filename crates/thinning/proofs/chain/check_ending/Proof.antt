@@ -13,9 +13,9 @@ use Rattle.graph.specs.Chain.{endRefusal}
 use Rattle.rules.specs.Endings.{endedOf}
 use Rattle.rules.proofs.Ends.{Two, two-of}
 use Rattle.rules.proofs.Steps.{Kept, ended-kept, ended-refused}
-use Rattle.thinning.specs.Verdicts.{droppedIn}
-use Rattle.thinning.proofs.Chains.{refused-leaves, kept-leaves, ending-broken, ending-refused, ending-longer}
-use Rattle.thinning.proofs.Chains.{ending-kept}
+use Rattle.claim.specs.Verdicts.{droppedIn}
+use Rattle.claim.proofs.Chains.{refused-leaves, kept-leaves, ending-broken, ending-refused, ending-longer}
+use Rattle.claim.proofs.Chains.{ending-kept}
 use Rattle.thinning.proofs.chain.check_ending.Statement.{statement}
 use Rattle.thinning.proofs.chain.check_ending.Tie as tie
 

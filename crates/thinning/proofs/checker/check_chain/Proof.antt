@@ -6,12 +6,12 @@ use Rattle.base.specs.Answer.{answer, replyOf, after}
 use Rattle.base.proofs.Answers.{refuses}
 use Rattle.loading.proofs.Reading.{loaded-zero, loaded-refused}
 use Rattle.graph.specs.State.{noMarks}
-use Rattle.thinning.specs.Verdicts.{checkChain}
-use Rattle.thinning.specs.Services.{acceptNetwork, keptIn}
-use Rattle.thinning.proofs.Chains.{was-refused, was-kept}
-use Rattle.thinning.proofs.Meets.{chain-numbered}
-use Rattle.thinning.proofs.Accepting.{accept-numbered, accepted-running, passing-keeping, chain-network-refused}
-use Rattle.thinning.proofs.Accepting.{chain-refused, chain-kept}
+use Rattle.claim.specs.Verdicts.{checkChain}
+use Rattle.claim.specs.Services.{acceptNetwork, keptIn}
+use Rattle.claim.proofs.Chains.{was-refused, was-kept}
+use Rattle.claim.proofs.Meets.{chain-numbered}
+use Rattle.claim.proofs.Accepting.{accept-numbered, accepted-running, passing-keeping, chain-network-refused}
+use Rattle.claim.proofs.Accepting.{chain-refused, chain-kept}
 use Rattle.thinning.proofs.checker.check_chain.Statement.{statement}
 use Rattle.thinning.proofs.checker.check_chain.Tie as tie
 

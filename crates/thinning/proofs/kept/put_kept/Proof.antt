@@ -2,7 +2,7 @@
 use mathlib.Core.Path.{_∙_, ap}
 use borrow.Author.Needs.{needs}
 use Rattle.base.specs.Answer.{answer, replyOf, after}
-use Rattle.thinning.proofs.Keepings.{kept-text}
+use Rattle.claim.proofs.Keepings.{kept-text}
 use Rattle.thinning.proofs.kept.put_kept.Statement.{statement}
 use Rattle.thinning.proofs.kept.put_kept.Tie as tie
 

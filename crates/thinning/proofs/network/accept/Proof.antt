@@ -5,8 +5,8 @@ use Rattle.base.specs.Answer.{answer, unless}
 use Rattle.base.proofs.Answers.{unless-refused, unless-next}
 use Rattle.loading.specs.Loading.{loadNetwork, loadedOf}
 use Rattle.loading.proofs.Reading.{load-numbered, loaded-known, loaded-zero, loaded-refused}
-use Rattle.thinning.specs.Services.{acceptNetwork}
-use Rattle.thinning.proofs.Accepting.{accept-refused, accept-judged}
+use Rattle.claim.specs.Services.{acceptNetwork}
+use Rattle.claim.proofs.Accepting.{accept-refused, accept-judged}
 use Rattle.thinning.proofs.network.accept.Statement.{statement}
 use Rattle.thinning.proofs.network.accept.Tie as tie
 

@@ -1,7 +1,7 @@
 -- `thinning::network::check_network` meets its contract.
 use borrow.Author.Needs.{needs}
 use Rattle.loading.proofs.Reading.{loaded-zero, loaded-refused}
-use Rattle.thinning.proofs.Accepting.{accept-numbered, answered-refused, answered-accepted}
+use Rattle.claim.proofs.Accepting.{accept-numbered, answered-refused, answered-accepted}
 use Rattle.thinning.proofs.network.check_network.Statement.{statement}
 use Rattle.thinning.proofs.network.check_network.Tie as tie
 

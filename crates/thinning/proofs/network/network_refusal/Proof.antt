@@ -2,7 +2,7 @@
 use mathlib.Core.Path.{sym, _∙_}
 use borrow.Author.Needs.{needs}
 use borrow.Author.Tests.{not-true, not-false}
-use Rattle.thinning.proofs.Accepting.{degree-refused, cut-refused, not-refused}
+use Rattle.claim.proofs.Accepting.{degree-refused, cut-refused, not-refused}
 use Rattle.thinning.proofs.network.network_refusal.Statement.{statement}
 use Rattle.thinning.proofs.network.network_refusal.Tie as tie
 

@@ -8,11 +8,11 @@ use lib.Seq.{length-take-le}
 use Rattle.base.specs.Answer.{answer, over}
 use Rattle.base.specs.Refusals.{SHORT}
 use Rattle.base.proofs.Answers.{fits}
-use Rattle.thinning.specs.declared.planner.Planned.the-variants.{Written}
+use Rattle.claim.specs.declared.Planned.the-variants.{Written}
 use Rattle.chain_text.specs.Text.{chainLength}
-use Rattle.thinning.specs.Services.{keptTextOf, textsOf}
-use Rattle.thinning.proofs.Keepings.{kept-size}
-use Rattle.thinning.proofs.Handing.{chain-size, short-chain, short-kept, both-fit, handed-refused, handed-over}
+use Rattle.claim.specs.Services.{keptTextOf, textsOf}
+use Rattle.claim.proofs.Keepings.{kept-size}
+use Rattle.claim.proofs.Handing.{chain-size, short-chain, short-kept, both-fit, handed-refused, handed-over}
 use Rattle.thinning.proofs.planner.hand_over.Statement.{statement}
 use Rattle.thinning.proofs.planner.hand_over.Tie as tie
 

@@ -9,9 +9,9 @@ use Rattle.base.specs.Answer.{answer, filled}
 use Rattle.base.specs.Limits.{fewestVertices, vertexLimit}
 use Rattle.loading.proofs.Reading.{loaded-zero, loaded-refused}
 use Rattle.rules.specs.Plans.{StepRoom}
-use Rattle.thinning.specs.Services.{acceptNetwork, plannedOf}
-use Rattle.thinning.proofs.Accepting.{accept-numbered, accepted-running, remaining-few}
-use Rattle.thinning.proofs.Handing.{handed-refused, plan-refused, plan-given, plan-ready}
+use Rattle.claim.specs.Services.{acceptNetwork, plannedOf}
+use Rattle.claim.proofs.Accepting.{accept-numbered, accepted-running, remaining-few}
+use Rattle.claim.proofs.Handing.{handed-refused, plan-refused, plan-given, plan-ready}
 use Rattle.thinning.proofs.planner.plan.Statement.{statement}
 use Rattle.thinning.proofs.planner.plan.Tie as tie
 

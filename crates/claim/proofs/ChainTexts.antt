@@ -1,0 +1,163 @@
+-- The bytes of a chain and its meaning: what passes is the chain text
+-- of steps and an ending that pass, and the other way round.
+use mathlib.Core.Path.{_≡_, refl, sym, _∙_, ap}
+use mathlib.Core.Bool.{Bool, true}
+use mathlib.Core.List.{List, [], _∷_, _++_, map, append-nil}
+use Prim.Native.Nat.{ℕ, zero, suc, _+_, _-_, _^_, _≤_, _<_}
+use native.Mathlib.Omega.{arith}
+use lib.Dec.{leb, eqb}
+use lib.ListN.{length, drop, drop-of-length-le}
+use borrow.Author.Tests.{leb-true, eq-eqb, lt-ltb}
+use Rattle.base.specs.Answer.{answer, unless}
+use Rattle.frame.specs.Table.{STEP, DROPPED, lineLength}
+use Rattle.frame.specs.Line.{isLine, fieldsOf, lineOf, Fits}
+use Rattle.frame.specs.Kinds.{stepOf, ofStep, droppedOf, ofDropped}
+use Rattle.frame.proofs.Lines.{length-line, line-is, line-rest, fields-found, line-back, line-fits}
+use Rattle.frame.proofs.Named.{step-back, dropped-back}
+use Rattle.chain_text.specs.Text.{chainText}
+use Rattle.chain_text.proofs.Texts.{step-fits, dropped-fits}
+use Rattle.graph.specs.Split.{split, third, after}
+use Rattle.graph.specs.Chain.{stepRefusal, endRefusal, endKept, lift, lifted, check, StepByRule, EndingByRule, ByRules}
+use Rattle.graph.specs.Chain.{ending, step}
+use Rattle.graph.specs.declared.Network.{Network}
+use Rattle.graph.specs.declared.Step.{Step}
+use Rattle.graph.proofs.Rules.{ruled-step}
+use Rattle.base.proofs.Answers.{unless-answered, cond-answered}
+use Rattle.graph.proofs.Checking.{lift-keeps, check-began, passes-ruled}
+use Rattle.rules.specs.Running.{Running}
+use Rattle.claim.specs.Verdicts.{stepIn, droppedIn, leftOver, checkEnding, checkChain}
+use Rattle.claim.specs.Plans.{inFrame}
+use Rattle.rules.proofs.Steps.{running-after, step-taken, v-below}
+use Rattle.claim.proofs.Chains.{ending-kept, chain-at-more}
+
+-- ── the line of a step, and of an ending ──
+step-line : (t : List ℕ) → isLine STEP t ≡ true
+    → t ≡ lineOf STEP (ofStep (inFrame (stepIn t))) ++ drop (lineLength STEP) t
+step-line t h =
+    sym (line-back STEP t h)
+    ∙ ap (λ f. lineOf STEP f ++ drop (lineLength STEP) t) (sym (step-back (fieldsOf STEP t) (line-fits STEP t h)))
+
+ending-line : (t : List ℕ) → isLine DROPPED t ≡ true → length t ≤ lineLength DROPPED
+    → t ≡ lineOf DROPPED (ofDropped (record { edge = droppedIn t }))
+ending-line t h l =
+    sym (line-back DROPPED t h)
+    ∙ ap (λ r. lineOf DROPPED (fieldsOf DROPPED t) ++ r) (drop-of-length-le t l)
+    ∙ append-nil (lineOf DROPPED (fieldsOf DROPPED t))
+    ∙ ap (lineOf DROPPED) (sym (dropped-back (fieldsOf DROPPED t) (line-fits DROPPED t h)))
+
+-- ── bytes that pass are a chain text whose meaning passes ──
+pub record Meant (g : Network) (t : List ℕ) (K : List Bool) : Type 0 where
+  pub steps : List Step
+  pub dropped : ℕ
+  pub text-is : t ≡ chainText (map inFrame steps) dropped
+  pub passes : check g steps dropped ≡ answer K
+
+ending-meant : (g : Network) (t : List ℕ) (K : List Bool) → g .remaining ≡ 2 → checkEnding g t ≡ answer K → Meant g t K
+unfolding checkEnding chainText check unless
+ending-meant g t K e h =
+    let a = cond-answered (isLine DROPPED t) _ 1 K h in
+    let b = unless-answered (endRefusal g (droppedIn t)) _ K (a .1) in
+    let c = cond-answered (leb (length t) (lineLength DROPPED)) (answer (endKept g (droppedIn t))) leftOver K (b .1) in
+    record {
+      steps = [];
+      dropped = droppedIn t;
+      text-is = ending-line t (a .0) (leb-true (length t) (lineLength DROPPED) (c .0));
+      passes = rw (eq-eqb (g .remaining) 2 e, b .0) (c .1);
+    }
+
+pub bytes-meant : (n : ℕ) (g : Network) (t : List ℕ) (K : List Bool) → g .remaining ≡ 2 + n
+    → checkChain n g t ≡ answer K
+    → Meant g t K
+unfolding checkChain
+bytes-meant zero g t K e h = ending-meant g t K e h
+bytes-meant (suc n) g t K e h =
+    let s = stepIn t in
+    let a = cond-answered (isLine STEP t) _ 1 K h in
+    let b =
+    unless-answered (stepRefusal g s)
+    (lifted (s .x) (s .y) (third g s) (checkChain n (after g s) (drop (lineLength STEP) t))) K (a .1) in
+    let c = lift-keeps g s (checkChain n (after g s) (drop (lineLength STEP) t)) K (b .1) in
+    let m = bytes-meant n (after g s) (drop (lineLength STEP) t) (c .0) (fewer e) (c .1) in
+    record {
+      steps = s ∷ m .steps;
+      dropped = m .dropped;
+      text-is = step-line t (a .0) ∙ text m;
+      passes = more m (b .0) (c .2);
+    }
+  where
+    fewer : g .remaining ≡ 2 + suc n → after g (stepIn t) .remaining ≡ 2 + n
+    fewer e = unfold after split in omega arith
+
+    text : {L : List Bool} (m : Meant (after g (stepIn t)) (drop (lineLength STEP) t) L)
+        → lineOf STEP (ofStep (inFrame (stepIn t))) ++ drop (lineLength STEP) t
+        ≡ chainText (map inFrame (stepIn t ∷ m .steps)) (m .dropped)
+    text m = unfold chainText in ap (λ r. lineOf STEP (ofStep (inFrame (stepIn t))) ++ r) (m .text-is)
+
+    more : {L : List Bool} (m : Meant (after g (stepIn t)) (drop (lineLength STEP) t) L) → stepRefusal g (stepIn t) ≡ 0
+        → lift (stepIn t .x) (stepIn t .y) (third g (stepIn t)) L ≡ K
+        → check g (stepIn t ∷ m .steps) (m .dropped) ≡ answer K
+    more m p q =
+        unfold check unless lifted in rw (lt-ltb 2 (g .remaining) (omega arith), p, m .passes) (ap answer q)
+
+-- ── and the text of a chain that passes passes ──
+
+ending-passes : (g : Network) (d : ℕ) (K : List Bool) → EndingByRule g d → d < 2 ^ 16 → check g [] d ≡ answer K
+    → checkEnding g (chainText [] d) ≡ answer K
+unfolding chainText check
+ending-passes g d K r l h =
+    let f = ofDropped (record { edge = d }) in
+    let text = lineOf DROPPED f in
+    let e = sym (append-nil text) in
+    let is : isLine DROPPED text ≡ true = ap (isLine DROPPED) e ∙ line-is DROPPED f [] in
+    let found : fieldsOf DROPPED text ≡ f = ap (fieldsOf DROPPED) e ∙ fields-found DROPPED f [] (dropped-fits d l) in
+    let named : droppedIn text ≡ d = ap (λ f. droppedOf f .edge) found in
+    let k = cond-answered (eqb (g .remaining) 2) _ 1 K h in
+    let u = unless-answered (endRefusal g d) (answer (endKept g d)) K (k .1) in
+    ending-kept g text is (ap (endRefusal g) named ∙ u .0) (omega (arith, length-line DROPPED f))
+    ∙ ap (λ i. answer (endKept g i)) named
+    ∙ u .1
+
+-- a step's line in front of the rest of a chain
+module _ (t : Step) (fits : Fits STEP (ofStep (inFrame t))) (rest : List ℕ) where
+  line-names : t ≡ stepIn (lineOf STEP (ofStep (inFrame t)) ++ rest)
+  line-names =
+      ap (λ f. record { v = stepOf f .v; x = stepOf f .x; y = stepOf f .y })
+      (sym (fields-found STEP (ofStep (inFrame t)) rest fits))
+
+step-passes : {g : Network} → Running g → (t : Step) (rest : List ℕ) (L : List Bool) → 2 < g .remaining → StepByRule g t
+    → checkChain (after g t .remaining - 2) (after g t) rest ≡ answer L
+    → checkChain (g .remaining - 2) g (lineOf STEP (ofStep (inFrame t)) ++ rest)
+    ≡ answer (lift (t .x) (t .y) (third g t) L)
+unfolding lifted
+step-passes {g} run t rest L more r h =
+    let passed = ruled-step g t r in
+    let w = step-taken run more t passed in
+    let fits =
+    step-fits (inFrame t) (omega (arith, v-below run more t passed, run .vertex-room))
+    (omega (arith, w .at .four .x<, run .edge-room)) (omega (arith, w .at .four .y<, run .edge-room)) in
+    let text = lineOf STEP (ofStep (inFrame t)) ++ rest in
+    chain-at-more g text 0 more (line-is STEP (ofStep (inFrame t)) rest) t (line-names t fits rest) (lineLength STEP)
+    (after g t) passed refl (omega arith)
+    ∙ ap (λ l. lifted (t .x) (t .y) (third g t) (checkChain (after g t .remaining - 2) (after g t) l))
+    (line-rest STEP (ofStep (inFrame t)) rest)
+    ∙ ap (lifted (t .x) (t .y) (third g t)) h
+
+pub meaning-passes : (ts : List Step) {g : Network} (d : ℕ) → Running g → (K : List Bool) → check g ts d ≡ answer K
+    → checkChain (g .remaining - 2) g (chainText (map inFrame ts) d) ≡ answer K
+unfolding chainText
+meaning-passes [] {g} d run K h = go (passes-ruled [] (run .sound) d K h)
+  where
+    go : ByRules g [] d → checkChain (g .remaining - 2) g (chainText [] d) ≡ answer K
+    go (ending two r) = let e : g .remaining - 2 ≡ 0 = omega arith in
+        rw e (unfold checkChain in ending-passes g d K r (omega (arith, r .one .number, run .edge-room)) h)
+meaning-passes (t ∷ ts) {g} d run K h =
+    go (passes-ruled (t ∷ ts) (run .sound) d K h) (λ run L. meaning-passes ts d run L)
+  where
+    go : ByRules g (t ∷ ts) d
+        → (Running (after g t) → (L : List Bool) → check (after g t) ts d ≡ answer L
+        → checkChain (after g t .remaining - 2) (after g t) (chainText (map inFrame ts) d) ≡ answer L)
+        → checkChain (g .remaining - 2) g (lineOf STEP (ofStep (inFrame t)) ++ chainText (map inFrame ts) d) ≡ answer K
+    go (step more r rest) ih =
+        let w = check-began g t ts d K h in
+        step-passes run t (chainText (map inFrame ts) d) (w .later) more r
+        (ih (running-after run more t (ruled-step g t r)) (w .later) (w .later-keeps)) ∙ ap answer (w .marks-are)

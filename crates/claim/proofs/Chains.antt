@@ -1,0 +1,131 @@
+-- How the frames of a chain decide its verdict, one after the other.
+use mathlib.Core.Path.{_≡_, refl, sym, _∙_, ap}
+use mathlib.Core.Bool.{Bool, true, false}
+use mathlib.Core.List.{List}
+use Prim.Native.Nat.{ℕ, zero, suc, _+_, _-_, _≤_, _<_}
+use native.Mathlib.Omega.{arith}
+use lib.ListN.{length, drop}
+use lib.Seq.{drop-drop}
+use borrow.Author.Tests.{le-leb, lt-leb}
+use Rattle.base.specs.Answer.{Answer, answer, refused, unless, refusalOf, numberGiven}
+use Rattle.frame.specs.Table.{STEP, DROPPED, lineLength}
+use Rattle.frame.specs.Line.{isLine}
+use Rattle.graph.specs.Split.{split, third, after}
+use Rattle.graph.specs.Chain.{stepRefusal, endRefusal, endKept, lift, lifted}
+use Rattle.graph.specs.declared.Network.{Network}
+use Rattle.graph.specs.declared.Step.{Step}
+use Rattle.claim.specs.Verdicts.{stepIn, droppedIn, leftOver, checkEnding, checkChain, marksAfter}
+
+-- ── what a verdict leaves ──
+module _ {w : Answer (List Bool)} where
+  pub refused-leaves : {k : ℕ} → w ≡ refused k → (old : List Bool) → (k ≡ refusalOf w) × (old ≡ marksAfter w old)
+  unfolding refusalOf numberGiven
+  refused-leaves e old = (rw e, rw e)
+
+  pub kept-leaves : {K : List Bool} → w ≡ answer K → (old : List Bool) → (0 ≡ refusalOf w) × (K ≡ marksAfter w old)
+  unfolding refusalOf numberGiven
+  kept-leaves e old = (rw e, rw e)
+
+-- and the other way round
+pub was-refused : (w : Answer (List Bool)) {k : ℕ} → k ≡ refusalOf w → 0 < k → w ≡ refused k
+unfolding refusalOf
+was-refused (refused j) e l = ap refused (sym e)
+was-refused (answer K) e l = absurd (omega arith)
+
+pub was-kept : (w : Answer (List Bool)) → ((j : ℕ) → w ≡ refused j → 0 < j) → {k : ℕ} → k ≡ refusalOf w → k ≤ 0
+    → (old : List Bool) {K : List Bool} → K ≡ marksAfter w old → w ≡ answer K
+unfolding refusalOf numberGiven
+was-kept (refused j) numbered e l old m = absurd (omega (arith, numbered j refl))
+was-kept (answer L) numbered e l old m = ap answer (sym m)
+
+-- going back through a step
+module _ (g : Network) (t : Step) {w : Answer (List Bool)} where
+  pub lifted-refused : {k : ℕ} → w ≡ refused k → lifted (t .x) (t .y) (third g t) w ≡ refused k
+  unfolding lifted
+  lifted-refused e = rw e
+
+  pub lifted-kept : {K : List Bool} {z : ℕ} → w ≡ answer K → third g t ≡ z
+      → lifted (t .x) (t .y) (third g t) w ≡ answer (lift (t .x) (t .y) z K)
+  unfolding lifted
+  lifted-kept e q = rw (e, q)
+
+-- ── endings ──
+module _ (g : Network) (t : List ℕ) where
+  pub ending-broken : isLine DROPPED t ≡ false → checkEnding g t ≡ refused 1
+  unfolding checkEnding
+  ending-broken h = rw h
+
+  module _ (is : isLine DROPPED t ≡ true) where
+    pub ending-refused : (k : ℕ) → 0 < k → endRefusal g (droppedIn t) ≡ k → checkEnding g t ≡ refused k
+    unfolding checkEnding unless
+    ending-refused zero l h = absurd (omega arith)
+    ending-refused (suc k) l h = rw (is, h)
+
+    pub ending-longer : endRefusal g (droppedIn t) ≡ 0 → lineLength DROPPED < length t
+        → checkEnding g t ≡ refused leftOver
+    unfolding checkEnding unless
+    ending-longer h l = rw (is, h, lt-leb (length t) (lineLength DROPPED) l)
+
+    pub ending-kept : endRefusal g (droppedIn t) ≡ 0 → length t ≤ lineLength DROPPED
+        → checkEnding g t ≡ answer (endKept g (droppedIn t))
+    unfolding checkEnding unless
+    ending-kept h l = rw (is, h, le-leb (length t) (lineLength DROPPED) l)
+
+-- ── steps ──
+module _ (n : ℕ) (g : Network) (t : List ℕ) where
+  pub chain-broken : isLine STEP t ≡ false → checkChain (suc n) g t ≡ refused 1
+  unfolding checkChain
+  chain-broken h = rw h
+
+  module _ (is : isLine STEP t ≡ true) where
+    pub chain-refused : (k : ℕ) → 0 < k → stepRefusal g (stepIn t) ≡ k → checkChain (suc n) g t ≡ refused k
+    unfolding checkChain unless
+    chain-refused zero l h = absurd (omega arith)
+    chain-refused (suc k) l h = rw (is, h)
+
+    pub chain-more : stepRefusal g (stepIn t) ≡ 0
+        → checkChain (suc n) g t
+        ≡ lifted (stepIn t .x) (stepIn t .y) (third g (stepIn t))
+        (checkChain n (after g (stepIn t)) (drop (lineLength STEP) t))
+    unfolding checkChain unless
+    chain-more h = rw (is, h)
+
+-- ── the same by the vertices that remain ──
+module _ (g : Network) (text : List ℕ) (at : ℕ) where
+  pub chain-end : g .remaining ≤ 2 → checkChain (g .remaining - 2) g (drop at text) ≡ checkEnding g (drop at text)
+  unfolding checkChain
+  chain-end h = let e : g .remaining - 2 ≡ 0 = omega arith in rw e
+
+  module _ (more : 2 < g .remaining) where
+    one-more : suc (g .remaining - 1 - 2) ≡ g .remaining - 2
+    one-more = omega arith
+
+    pub chain-at-broken : isLine STEP (drop at text) ≡ false
+        → checkChain (g .remaining - 2) g (drop at text) ≡ refused 1
+    chain-at-broken h = rw (← one-more) (chain-broken (g .remaining - 1 - 2) g (drop at text) h)
+
+    -- t is the step that the frame names
+    module _ (is : isLine STEP (drop at text) ≡ true) (t : Step) (named : t ≡ stepIn (drop at text)) where
+      pub chain-at-refused : (k : ℕ) → 0 < k → stepRefusal g t ≡ k
+          → checkChain (g .remaining - 2) g (drop at text) ≡ refused k
+      chain-at-refused k l h =
+          rw (← one-more)
+          (chain-refused (g .remaining - 1 - 2) g (drop at text) is k l (ap (stepRefusal g) (sym named) ∙ h))
+
+      -- h is the network after the step, and next the place behind its line
+      pub chain-at-more : (next : ℕ) (h : Network) → stepRefusal g t ≡ 0 → h ≡ after g t → next ≡ at + lineLength STEP
+          → checkChain (g .remaining - 2) g (drop at text)
+          ≡ lifted (t .x) (t .y) (third g t) (checkChain (h .remaining - 2) h (drop next text))
+      chain-at-more next h p q b =
+          let s = stepIn (drop at text) in
+          let later : checkChain (g .remaining - 1 - 2) (after g s) (drop (lineLength STEP) (drop at text))
+          ≡ checkChain (h .remaining - 2) h (drop next text) =
+          rw (q, b, drop-drop (lineLength STEP) at text, named) left in
+          rw (← one-more) (chain-more (g .remaining - 1 - 2) g (drop at text) is (ap (stepRefusal g) (sym named) ∙ p))
+          ∙ ap (lifted (s .x) (s .y) (third g s)) later
+          ∙ ap (λ s. lifted (s .x) (s .y) (third g s) (checkChain (h .remaining - 2) h (drop next text))) (sym named)
+        where
+          left : let k = after g (stepIn (drop at text)) in
+              checkChain (g .remaining - 1 - 2) k (drop (at + lineLength STEP) text)
+              ≡ checkChain (k .remaining - 2) k (drop (at + lineLength STEP) text)
+          left = unfold after split in refl

@@ -1,0 +1,38 @@
+-- Writing the kept text of marked edges.
+use mathlib.Core.Path.{_≡_, sym, _∙_, ap, ap₂}
+use mathlib.Core.Bool.{Bool}
+use mathlib.Core.List.{List}
+use Prim.Native.Nat.{ℕ}
+use native.Mathlib.Omega.{arith}
+use lib.ListN.{length}
+use lib.IntN.{ℤ, natAbs}
+use mir.Syntax.{w64}
+use mir.Val.{toZ, ofZ}
+use Rattle.kept_text.specs.Text.{keptEdges, keptText, keptLength}
+use Rattle.kept_text.proofs.Texts.{length-kept}
+use Rattle.graph.specs.Network.{keptCost, allButReserved}
+use Rattle.graph.specs.declared.Network.{Network}
+use Rattle.rules.specs.Running.{Keeping}
+use Rattle.claim.specs.Services.{keptTextOf}
+use Rattle.base.proofs.Integers.{read-back}
+use Rattle.rules.proofs.Totals.{kept-small, reserved-small}
+
+-- how long the text is
+pub kept-length-is : (g : Network) (K : List Bool)
+    → length (keptTextOf g K) ≡ keptLength (length (keptEdges (g .edges) K))
+unfolding keptTextOf
+kept-length-is g K = length-kept (keptEdges (g .edges) K) (keptCost g K) (allButReserved g)
+
+module _ {g : Network} {K : List Bool} (k : Keeping g K) where
+  pub kept-size : (n : ℕ) → n ≡ keptLength (length (keptEdges (g .edges) K)) → n ≡ length (keptTextOf g K)
+  kept-size n e = e ∙ sym (kept-length-is g K)
+
+  -- the text with the costs as the code hands them over
+  module _ (kept unreserved : ℤ) (ek : kept ≡ keptCost g K) (eu : unreserved ≡ allButReserved g) where
+    pub kept-text : keptText (keptEdges (g .edges) K) (toZ w64 (ofZ w64 kept)) (toZ w64 (ofZ w64 unreserved))
+        ≡ keptTextOf g K
+    unfolding keptTextOf
+    kept-text =
+        ap₂ (keptText (keptEdges (g .edges) K))
+        (read-back kept (omega (arith, ap natAbs ek, kept-small g (k .light) K)) ∙ ek)
+        (read-back unreserved (omega (arith, ap natAbs eu, reserved-small g (k .light))) ∙ eu)

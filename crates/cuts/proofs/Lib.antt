@@ -1,0 +1,2 @@
+pub mod Anchored
+pub mod Partnering

@@ -1,0 +1,75 @@
+// Whether every cut of a network is crossed by at least four edges, and what is decided by it.
+ghost use Prim.Native.Nat.{_≤_};
+ghost use lib.ListN.{length};
+ghost use mathlib.Core.Path.{_≡_};
+ghost use Rattle.graph.specs.Cut.{everyCut};
+ghost use Rattle.graph.specs.Sound.{Formed};
+ghost use Rattle.graph.specs.Split.{admissible};
+ghost use Rattle.cuts.specs.Partnered.{Partnered};
+ghost use Rattle.cuts.specs.Anchor.{FirstOf};
+use flow::Pair;
+use flow::four_paths;
+use flow::lay;
+use flow::wire;
+use graph::Network;
+
+// The first present vertex, or the number of vertices where none is present.
+fn first_present(present: &[bool], vertices: usize) -> usize
+    requires { ⌜ vertices ≤ length (now present) ⌝ }
+    ensures { λ r. ⌜ FirstOf (now (present .entry)) vertices r ⌝ }
+{
+    let mut vertex = 0;
+    while vertex < vertices {
+        if present[vertex] {
+            return vertex;
+        }
+        vertex += 1;
+    }
+    vertex
+}
+
+// Whether every cut is crossed by at least four edges: whether the
+// first present vertex is four apart from every other one.
+pub fn every_cut_four(network: Network) -> bool
+    requires { ⌜ Formed network ⌝ }
+    ensures { λ r. ⌜ r ≡ everyCut 4 network ⌝ }
+{
+    let present = network.present;
+    let vertices = network.vertices;
+    let ends = lay(network);
+    let ports = wire(&ends);
+    let anchor = first_present(&present, vertices);
+    let mut vertex = anchor + 1;
+    while vertex < vertices {
+        if present[vertex] {
+            let source = anchor as u8;
+            let sink = vertex as u8;
+            let four = four_paths(
+                &ends,
+                &ports,
+                Pair {
+                    first: source,
+                    second: source,
+                },
+                Pair {
+                    first: sink,
+                    second: sink,
+                },
+            );
+            if !four {
+                return false;
+            }
+        }
+        vertex += 1;
+    }
+    true
+}
+
+// Whether partner x at v, an end of the reserved edge, is admissible; y and z are the other
+// two partners, in rising order. It tests every cut of the network after that split.
+pub fn admissible(network: Network, v: u8, x: usize, y: usize, z: usize) -> bool
+    requires { ⌜ Partnered network v x y z ⌝ }
+    ensures { λ r. ⌜ r ≡ admissible network v x ⌝ }
+{
+    every_cut_four(network.split(v, x, y, z))
+}

@@ -1,0 +1,31 @@
+-- `digits::hexadecimal::digit_of` meets its contract.
+-- Assumes nothing.
+use borrow.Author.Needs.{needs}
+use borrow.Author.Tests.{le-ltb, lt-ltb}
+use Rattle.digits.specs.Hexadecimal.{digitOf}
+use Rattle.digits.proofs.hexadecimal.digit_of.Statement.{statement}
+use Rattle.digits.proofs.hexadecimal.digit_of.Tie as tie
+
+cast-result : tie.Need-cast-result
+cast-result c = search needs
+
+add-result : tie.Need-add-result
+add-result c = search needs
+
+cast-result-2 : tie.Need-cast-result-2
+cast-result-2 c = search needs
+
+add-result-2 : tie.Need-add-result-2
+add-result-2 c = search needs
+
+returns : tie.Need-returns
+unfolding digitOf
+returns c = simp (lt-ltb _ _ (c .if1 .taken))
+
+returns-2 : tie.Need-returns-2
+unfolding digitOf
+returns-2 c = simp (le-ltb _ _ (c .if1 .left))
+
+pub digit-of-spec : {M : Type 1} → statement M
+digit-of-spec =
+    tie.close (tie.spec cast-result add-result cast-result-2 add-result-2 returns returns-2)

@@ -1,0 +1,2 @@
+pub mod Hexadecimal
+pub mod Sign

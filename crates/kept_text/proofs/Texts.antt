@@ -1,0 +1,157 @@
+-- The kept edges one after the other, what is owed of the edges that a kept text lists, and the lengths of kept texts.
+-- Assumes nothing.
+use mathlib.Core.Path.{_≡_, refl, _∙_, ap}
+use mathlib.Core.Bool.{Bool, true, false, cond, _&&_}
+use mathlib.Core.List.{List, [], _∷_, _++_, map}
+use Prim.Native.Nat.{ℕ, zero, suc, _+_, _*_, _-_, _≤_, _<_}
+use native.Mathlib.Omega.{arith}
+use native.Mathlib.Numerals.{add-one}
+use native.Mathlib.Nat.{sub-zero, zero-add, suc-add}
+use lib.Dec.{ltb}
+use lib.ListN.{length, length-append, List·getD-eq-default}
+use lib.IntN.{ℤ}
+use borrow.Author.Tests.{ltb-true, lt-ltb, le-leb}
+use Rattle.base.specs.Answer.{answer, andThen, over}
+use Rattle.base.specs.Fold.{pick, among}
+use Rattle.base.specs.Lengths.{longestKept}
+use Rattle.base.specs.Limits.{verticesOk, edgeLimit}
+use Rattle.base.proofs.Bools.{same-test, and-both, and-left, and-right}
+use Rattle.base.proofs.Sums.{pick-among, among-pick}
+use Rattle.frame.specs.Table.{KEPT, COSTS, bytesOf, padded, total, placeOf, startOf, lineLength}
+use Rattle.frame.specs.Line.{lineOf}
+use Rattle.frame.specs.Frames.{listed, linesOf}
+use Rattle.frame.specs.Kinds.{ofCosts}
+use Rattle.frame.proofs.Lines.{length-line}
+use Rattle.frame.proofs.Writing.{Written, written-last, written-front}
+use Rattle.list_text.specs.Text.{frameOf, risingFrom, listIn, readList, listText, writeList}
+use Rattle.kept_text.specs.Text.{isKept, keptEdges, keptText, keptLength, ListsKept}
+use Rattle.list_text.proofs.OneToOne.{one-to-one}
+use Rattle.list_text.proofs.Texts.{length-list}
+
+module _ (p : ℕ → Bool) where
+  -- the picked numbers that are left from a place on
+  pub pick-start : (n : ℕ) → pick (n - 0) 0 p ≡ pick n 0 p
+  pick-start n = rw sub-zero
+
+  pub pick-end : (n k : ℕ) → n ≤ k → pick (n - k) k p ≡ []
+  unfolding pick
+  pick-end n k h = let e : n - k ≡ 0 = omega arith in rw e
+
+  module _ (n k : ℕ) (h : k < n) where
+    pub pick-kept : p k ≡ true → pick (n - k) k p ≡ k ∷ pick (n - (k + 1)) (k + 1) p
+    unfolding pick
+    pick-kept t = let e : n - k ≡ suc (n - (k + 1)) = omega arith in rw (e, add-one, t)
+
+    pub pick-other : p k ≡ false → pick (n - k) k p ≡ pick (n - (k + 1)) (k + 1) p
+    unfolding pick
+    pick-other t = let e : n - k ≡ suc (n - (k + 1)) = omega arith in rw (e, add-one, t)
+
+    -- the text that is left, where the number at the place is kept
+    pub text-kept : p k ≡ true
+        → listText (pick (n - k) k p) ≡ lineOf KEPT (frameOf k) ++ listText (pick (n - (k + 1)) (k + 1) p)
+    unfolding listText linesOf
+    text-kept t = ap listText (pick-kept t)
+
+  few-picked : (n k : ℕ) → length (pick n k p) ≤ n
+  unfolding pick
+  few-picked zero k = omega arith
+  few-picked (suc n) k = go (p k) (few-picked n (suc k))
+    where
+      go : (b : Bool) → length (pick n (suc k) p) ≤ n
+          → length (cond b (k ∷ pick n (suc k) p) (pick n (suc k) p)) ≤ suc n
+      go true h = omega arith
+      go false h = omega arith
+
+-- nothing is picked beyond the last number of which a test holds
+pick-beyond : (p : ℕ → Bool) (n more k : ℕ) → ((i : ℕ) → k + n ≤ i → p i ≡ false) → pick (n + more) k p ≡ pick n k p
+unfolding pick
+pick-beyond p zero zero k h = refl
+pick-beyond p zero (suc more) k h =
+    rw (zero-add, h k (omega arith)) (rw zero-add at (pick-beyond p zero more (suc k) (λ i l. h i (omega arith))))
+pick-beyond p (suc n) more k h = rw (suc-add, pick-beyond p n more (suc k) (λ i l. h i (omega arith)))
+
+-- an edge beyond the marks isn't kept
+pub marks-end : (marks : List Bool) (n m : ℕ) → length marks ≤ m → m ≤ n → keptEdges n marks ≡ keptEdges m marks
+unfolding keptEdges
+marks-end marks n m h l =
+    let e : n ≡ m + (n - m) = omega arith in
+    rw e (pick-beyond (isKept marks) m (n - m) 0 (λ i k. List·getD-eq-default marks false (omega arith)))
+
+-- ── what is owed of the listed edges ──
+
+exactly : (n : ℕ) (marks : List Bool) (e : ℕ) → among e (keptEdges n marks) ≡ (ltb e n && isKept marks e)
+unfolding keptEdges
+exactly n marks e =
+    same-test _ _
+    (λ h. let w = pick-among n 0 (isKept marks) e h in and-both (lt-ltb e n (omega arith)) (w .2))
+    (λ h.
+    let inside = ltb-true e n (and-left (ltb e n) (isKept marks e) h) in
+    among-pick n 0 (isKept marks) e (omega arith) (omega arith) (and-right (ltb e n) (isKept marks e) h))
+
+-- picked numbers rise, so none of them is refused in a list
+picked-listed : (p : ℕ → Bool) (n k i least : ℕ) → least ≤ i → i + k ≤ 2 * n
+    → risingFrom n least (listed (map frameOf (pick k i p))) ≡ answer (pick k i p)
+unfolding pick listed risingFrom
+picked-listed p n zero i least l h = refl
+picked-listed p n (suc k) i least l h =
+    go (p i) (picked-listed p n k (suc i) (suc i) (omega arith) (omega arith))
+    (picked-listed p n k (suc i) least (omega arith) (omega arith))
+  where
+    later : List ℕ
+    later = pick k (suc i) p
+
+    go : (b : Bool) → risingFrom n (suc i) (listed (map frameOf later)) ≡ answer later
+        → risingFrom n least (listed (map frameOf later)) ≡ answer later
+        → risingFrom n least (listed (map frameOf (cond b (i ∷ later) later))) ≡ answer (cond b (i ∷ later) later)
+    go true with-it without = unfold andThen in rw (le-leb least i l, lt-ltb i (2 * n) (omega arith), with-it)
+    go false with-it without = without
+
+rising : (n : ℕ) (marks : List Bool) → verticesOk n ≡ true
+    → readList n (listText (keptEdges (2 * n) marks)) ≡ answer (keptEdges (2 * n) marks)
+rising n marks h = one-to-one .read-written n (keptEdges (2 * n) marks) _ written
+  where
+    written : writeList n (keptEdges (2 * n) marks) ≡ answer (listText (keptEdges (2 * n) marks))
+    written =
+        unfold writeList listIn keptEdges andThen in
+        rw (h, picked-listed (isKept marks) n (2 * n) 0 0 (omega arith) (omega arith))
+
+pub lists-kept : ListsKept
+lists-kept = record { exactly = exactly; rising = rising }
+
+-- ── lengths ──
+
+pub length-kept : (es : List ℕ) (kept unreserved : ℤ) → length (keptText es kept unreserved) ≡ keptLength (length es)
+unfolding keptText keptLength
+length-kept es kept unreserved =
+    let costs = ofCosts (record { kept = kept; unreserved = unreserved }) in
+    length-append (listText es) (lineOf COSTS costs) ∙ omega (arith, length-list es, length-line COSTS costs)
+
+-- a text of that length has room
+pub kept-fits : (es : List ℕ) (kept unreserved : ℤ) (n m : ℕ) → n ≡ keptLength (length es) → n ≤ m
+    → length (keptText es kept unreserved) ≤ m
+kept-fits es kept unreserved n m e h = omega (arith, length-kept es kept unreserved)
+
+-- the number of base is what the table of frames says
+pub longest-kept : keptLength edgeLimit ≡ longestKept
+unfolding keptLength lineLength startOf placeOf bytesOf padded total
+longest-kept = refl
+
+-- and no kept text is longer, since no more edges are kept than are looked at
+pub kept-short : (count : ℕ) → count ≤ edgeLimit → keptLength count ≤ longestKept
+unfolding keptLength lineLength startOf placeOf bytesOf padded total
+kept-short count h = omega arith
+
+pub few-kept : (n : ℕ) (marks : List Bool) → length (keptEdges n marks) ≤ n
+unfolding keptEdges
+few-kept n marks = few-picked (isKept marks) n 0
+
+-- the costs are left to write behind the kept edges
+pub costs-left : (es : List ℕ) (kept unreserved : ℤ) (old out : List ℕ) (at : ℕ) → at ≡ length (listText es)
+    → out ≡ over (listText es) old → length (keptText es kept unreserved) ≤ length old
+    → Written (keptText es kept unreserved)
+    (lineOf COSTS (ofCosts (record { kept = kept; unreserved = unreserved })) ++ []) old out at
+unfolding keptText
+costs-left es kept unreserved old out at n e h =
+    let costs = ofCosts (record { kept = kept; unreserved = unreserved }) in
+    written-last (keptText es kept unreserved) old out at COSTS costs
+    (written-front (listText es) (lineOf COSTS costs) old out at n e h)
