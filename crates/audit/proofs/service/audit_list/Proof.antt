@@ -9,6 +9,10 @@ use Rattle.audit.proofs.Answering.{text-refused, text-answered}
 use Rattle.audit.proofs.service.audit_list.Statement.{statement}
 use Rattle.audit.proofs.service.audit_list.Tie as tie
 
+-- what the function was given, seen from where nothing is refused
+abbrev entry : tie.Else1 → tie.Start
+entry c = c .before .before .before .before
+
 load-list-requires : tie.Need-load-list-requires
 load-list-requires c κs = search needs
 
@@ -21,21 +25,22 @@ returns c =
 
 -- where nothing is refused, the network and the marks are those of the texts
 texts : (c : tie.Else1)
-    → let a = c .before .before .before .before .args in
+    → let a = entry c .args in
     let loaded = c .before .load-list .result in
     loadList (a .network .now) (a .list .now) ≡ answer (loaded .network, loaded .listed)
 texts c = list-zero _ (list-numbered _ _) (c .before .load-list .ensures) (c .if1 .left)
 
 audit-requires : tie.Need-audit-requires
 audit-requires c κs =
-    let a = c .before .before .before .before .before .before .args in
-    formed-searchable _ (list-known (a .network .now) (a .list .now) _ _ (texts (c .before .before)) .fresh .formed)
+    let loaded = c .before .before in
+    let a = entry loaded .args in
+    formed-searchable _ (list-known (a .network .now) (a .list .now) _ _ (texts loaded) .fresh .formed)
 
 returns-2 : tie.Need-returns-2
 returns-2 c =
-    let a = c .before .before .before .before .before .before .before .args in
-    text-answered (a .network .now) (a .list .now) _ _ (c .audit .result) (texts (c .before .before .before))
-    (c .audit .ensures)
+    let loaded = c .before .before .before in
+    let a = entry loaded .args in
+    text-answered (a .network .now) (a .list .now) _ _ (c .audit .result) (texts loaded) (c .audit .ensures)
 
 pub audit-list-spec : {M : Type 1} → statement M
 audit-list-spec = tie.close (tie.spec load-list-requires returns audit-requires returns-2)

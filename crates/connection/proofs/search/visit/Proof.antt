@@ -14,6 +14,10 @@ Inv-loop low high listed edges next start reached₀ waiting₀ end₀ reached w
 abbrev μ-loop : tie.MeasureT-loop
 μ-loop low high listed edges next start reached₀ waiting₀ end₀ reached waiting end = length next - end
 
+-- what the function was given, seen from the loop
+abbrev entry : tie.At-loop Inv-loop μ-loop → tie.Start Inv-loop μ-loop
+entry c = c .before .before .before .before .before .before .before
+
 loop-holds : tie.Need-loop-holds Inv-loop μ-loop
 loop-holds c = (c .before .before .before .before .before .before .pre .1, none)
 
@@ -31,7 +35,7 @@ cast-later c = omega (arith, c .shared-slice-known5 .given (c .before .before .b
 
 -- an edge was passed, or its number is none of the network's
 passes : (c : tie.Joined1 Inv-loop μ-loop)
-    → let a = c .before .before .before .before .before .before .before .before .before .args in
+    → let a = entry (c .before .before) .args in
     let now = state (c .if1 .reached) (c .if1 .waiting) in
     let before = state (a .reached .now) (a .waiting .now) in
     Sized now × Passes (a .low .now) (a .high .now) (a .listed .now) (a .edges) before now

@@ -16,13 +16,16 @@ Inv-loop ends residual₀ order trail vertex number₀ residual number =
 abbrev μ-loop : tie.MeasureT-loop
 μ-loop ends residual₀ order trail vertex number₀ residual number = number
 
--- the turn that has come to its end; in a turn, what the function was given, and the arc by which the vertex was
--- reached that the unit has to come to
+-- the turn that has come to its end; what the function was given, seen from the loop and from a turn; and the arc by
+-- which the vertex was reached that the unit has to come to
 abbrev turn : tie.After-shared-slice-known7 Inv-loop μ-loop → tie.In-loop Inv-loop μ-loop
 turn c = c .before .before .before .before .before .before .before
 
+abbrev at-loop : tie.At-loop Inv-loop μ-loop → tie.Start Inv-loop μ-loop
+at-loop c = c .before .before .before .before .before .before
+
 abbrev entry : tie.In-loop Inv-loop μ-loop → tie.Start Inv-loop μ-loop
-entry c = c .before .before .before .before .before .before .before
+entry c = at-loop (c .before)
 
 abbrev arc : tie.In-loop Inv-loop μ-loop → ℕ
 arc c = at (entry c .args .trail .now) (c .before .loop .number)
@@ -88,12 +91,11 @@ same-length : tie.Need-same-length Inv-loop μ-loop
 same-length c = omega (
   arith,
   c .before .loop .inv .balanced .long,
-  c .before .before .before .before .before .before .before .pre .balanced .long,
+  at-loop (c .before) .pre .balanced .long,
 )
 
 returns : tie.Need-returns Inv-loop μ-loop
-returns c = partway-sent (c .before .before .before .before .before .before .before .pre) (c .before .loop .inv)
-    (c .loop-test .left)
+returns c = partway-sent (at-loop (c .before) .pre) (c .before .loop .inv) (c .loop-test .left)
 
 pub augment-spec : {M : Type 1} → statement M
 augment-spec =

@@ -11,6 +11,10 @@ use Rattle.flow.proofs.paths.round.Tie as tie
 start : (c : tie.Start) → Blank (replicate vertexLimit 0) (c .args .sources)
 start c = blank (c .args .sources) (omega arith) (omega arith)
 
+-- what the function was given, seen from the search's answer
+abbrev entry : tie.After-search → tie.Start
+entry c = c .before .before .before .before .before .before .before .before .before
+
 cast-first : tie.Need-cast-first
 cast-first c = search needs
 
@@ -37,8 +41,8 @@ slice-aggregate-search-2 c = search needs
 
 search-requires : tie.Need-search-requires
 search-requires c κs =
-    let entry = c .before .before .before .before .before .before .before .before in
-    (entry .pre .1 .0, sown-tree (start entry) _ _ _ (entry .pre .0) (entry .pre .1 .1 .long) refl)
+    let given = c .before .before .before .before .before .before .before .before in
+    (given .pre .1 .0, sown-tree (start given) _ _ _ (given .pre .0) (given .pre .1 .1 .long) refl)
 
 enum-known-found : tie.Need-enum-known-found
 enum-known-found c = search needs
@@ -52,8 +56,8 @@ same-length c = search needs
 returns : tie.Need-returns
 returns c =
     let searched = c .before .before .before .before in
-    let entry = searched .before .before .before .before .before .before .before .before .before in
-    round-full (start entry) (searched .search .ensures) (c .enum-told .given .1) (entry .pre .1 .1)
+    let given = entry searched in
+    round-full (start given) (searched .search .ensures) (c .enum-told .given .1) (given .pre .1 .1)
 
 slice-aggregate-augment : tie.Need-slice-aggregate-augment
 slice-aggregate-augment c = search needs
@@ -65,8 +69,8 @@ augment-requires : tie.Need-augment-requires
 augment-requires c κs =
     let found = c .before .before .before .before in
     let searched = found .before .before .before .before in
-    let entry = searched .before .before .before .before .before .before .before .before .before in
-    sendable (start entry) (searched .search .ensures) (found .found .given .1) (entry .pre .1 .1)
+    let given = entry searched in
+    sendable (start given) (searched .search .ensures) (found .found .given .1) (given .pre .1 .1)
 
 same-length-2 : tie.Need-same-length-2
 same-length-2 c = search needs
@@ -75,8 +79,8 @@ returns-2 : tie.Need-returns-2
 returns-2 c =
     let found = c .before .before .before .before .before .before .before in
     let searched = found .before .before .before .before in
-    let entry = searched .before .before .before .before .before .before .before .before .before in
-    round-sent (start entry) (searched .search .ensures) (found .found .given .1) (c .before .before .augment .ensures)
+    round-sent (start (entry searched)) (searched .search .ensures) (found .found .given .1)
+    (c .before .before .augment .ensures)
 
 pub round-spec : {M : Type 1} → statement M
 round-spec =

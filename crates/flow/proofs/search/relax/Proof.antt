@@ -1,4 +1,5 @@
 -- `relax` meets its contract: an arc that leads on gives its head the next number, by the laws of a search.
+use Prim.Native.Nat.{ℕ}
 use native.Mathlib.Omega.{arith}
 use borrow.Author.Needs.{needs}
 use Rattle.flow.specs.Arcs.{reverse}
@@ -10,6 +11,10 @@ use Rattle.flow.proofs.search.relax.Tie as tie
 abbrev entry : tie.Else3 → tie.Start
 entry c = c .before .before .before .before .before .before .before .before
 
+-- the reverse of the arc, which starts at its head, seen from where the head is read
+abbrev back : tie.After-shared-slice-known3 → ℕ
+back c = reverse (c .before .before .before .before .before .before .args .arc)
+
 -- where all tests have passed, the arc leads on
 found : (c : tie.Else3)
     → (let given = entry c .args in
@@ -20,8 +25,7 @@ found c = record {
   arc = entry c .pre .0;
   vertex = omega (
     arith,
-    c .before .before .shared-slice-known3 .given
-        (reverse (entry c .args .arc)),
+    c .before .before .shared-slice-known3 .given (back (c .before .before)),
   );
   carries = omega arith;
   from = omega arith;
@@ -56,17 +60,13 @@ shared-slice-read-to : tie.Need-shared-slice-read-to
 shared-slice-read-to c = search needs
 
 cast-to : tie.Need-cast-to
-cast-to c = let arc = c .before .before .before .before .before .before .args .arc in
-    omega (arith, c .shared-slice-known3 .given (reverse arc))
+cast-to c = omega (arith, c .shared-slice-known3 .given (back c))
 
 mul-if3 : tie.Need-mul-if3
-mul-if3 c = let arc = c .before .before .before .before .before .before .args .arc in
-    omega (arith, c .shared-slice-known3 .given (reverse arc))
+mul-if3 c = omega (arith, c .shared-slice-known3 .given (back c))
 
 slice-read-if3 : tie.Need-slice-read-if3
-slice-read-if3 c = let known = c .before in
-    let arc = known .before .before .before .before .before .before .args .arc in
-    omega (arith, known .shared-slice-known3 .given (reverse arc))
+slice-read-if3 c = omega (arith, c .before .shared-slice-known3 .given (back (c .before)))
 
 returns-3 : tie.Need-returns-3
 returns-3 c = search needs

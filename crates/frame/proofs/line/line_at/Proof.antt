@@ -9,6 +9,10 @@ use borrow.Author.Needs.{needs}
 use Rattle.frame.proofs.line.line_at.Statement.{statement}
 use Rattle.frame.proofs.line.line_at.Tie as tie
 
+-- what the function was given, seen from the kind that was read
+abbrev entry : tie.After-read-number → tie.Start
+entry c = c .before .before .before .before .before .before .before
+
 start-of-requires : tie.Need-start-of-requires
 start-of-requires c κs = search needs
 
@@ -48,7 +52,7 @@ enum-told c = search needs
 returns-3 : tie.Need-returns-3
 returns-3 c =
     let read = c .before .before in
-    let a = read .before .before .before .before .before .before .before .args in
+    let a = entry read .args in
     line-no-number (a .row) (a .line .now) (a .next) (sym (c .enum-told .given .1) ∙ read .read-number .ensures)
 
 kind-of-requires : tie.Need-kind-of-requires
@@ -58,7 +62,7 @@ returns-4 : tie.Need-returns-4
 returns-4 c =
     let told = c .before .before .before in
     let read = told .before .before in
-    let a = read .before .before .before .before .before .before .before .args in
+    let a = entry read .args in
     let g = told .kind .given in
     line-no-kind (a .row) (a .line .now) (a .next) (g .0 .0) (sym (g .1) ∙ read .read-number .ensures)
     (λ x. c .if3 .taken (x ∙ sym (c .before .kind-of .ensures)))
