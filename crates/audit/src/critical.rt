@@ -9,6 +9,7 @@ ghost use Rattle.connection.specs.Searchable.{Searchable};
 ghost use Rattle.audit.specs.Critical.{critical, criticalCount};
 use base::EDGE_LIMIT;
 use connection::Incidence;
+use connection::count_reached;
 use graph::Network;
 
 // How many edges are listed.
@@ -38,7 +39,16 @@ fn is_critical(network: Network, listed: [bool; EDGE_LIMIT], e: usize, table: In
         return false;
     }
     rest[e] = false;
-    table.reached_count(network, rest, 0) != network.vertices
+    let reached = count_reached(
+        &network.low,
+        &network.high,
+        &rest,
+        network.edges,
+        0,
+        &table.first,
+        &table.next,
+    );
+    reached != network.vertices
 }
 
 // How many listed edges are critical: all of them, if the list does not join all vertices.

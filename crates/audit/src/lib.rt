@@ -4,6 +4,7 @@ ghost use Rattle.connection.specs.Searchable.{Searchable};
 ghost use Rattle.audit.specs.Answers.{audited};
 use base::EDGE_LIMIT;
 use connection::Incidence;
+use connection::count_reached;
 use critical::critical_count;
 use graph::Network;
 
@@ -29,7 +30,15 @@ pub fn audit(network: Network, listed: [bool; EDGE_LIMIT]) -> Answers
     ensures { λ r. ⌜ r ≡ audited network listed ⌝ }
 {
     let table = Incidence::of(network, listed);
-    let reached = table.reached_count(network, listed, 0);
+    let reached = count_reached(
+        &network.low,
+        &network.high,
+        &listed,
+        network.edges,
+        0,
+        &table.first,
+        &table.next,
+    );
     let whole = reached == network.vertices;
     let critical = critical_count(network, listed, whole, table);
     Answers {

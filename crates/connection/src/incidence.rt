@@ -6,12 +6,9 @@ ghost use Prim.Native.Nat.{_<_, _≤_};
 ghost use mathlib.Core.Path.{_≡_};
 ghost use lib.ListN.{length};
 ghost use Rattle.base.specs.Limits.{vertexLimit, edgeLimit};
-ghost use Rattle.connection.specs.Connection.{reachedCount};
 ghost use Rattle.connection.specs.Searchable.{Searchable};
 ghost use Rattle.connection.specs.Search.{Columns};
 ghost use Rattle.connection.specs.Incidence.{endLimit, table, hooked, chained, incidence};
-use crate::search;
-use crate::words;
 use base::EDGE_LIMIT;
 use base::VERTEX_LIMIT;
 use graph::Network;
@@ -80,23 +77,5 @@ impl Incidence {
             &mut next,
         );
         Incidence { first, next }
-    }
-
-    // How many vertices the listed edges join to the start vertex, itself included, by a search over this table.
-    pub fn reached_count(self, network: Network, listed: [bool; EDGE_LIMIT], start: usize) -> usize
-        requires { ⌜ Searchable network ⌝ }
-        requires { ⌜ start < network .vertices ⌝ }
-        ensures { λ r. ⌜ r ≡ reachedCount network listed start ⌝ }
-    {
-        let reached = search::reach(
-            &network.low,
-            &network.high,
-            &listed,
-            network.edges,
-            start,
-            &self.first,
-            &self.next,
-        );
-        words::count(&reached.words)
     }
 }

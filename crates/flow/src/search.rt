@@ -15,8 +15,8 @@ pub enum Found {
     Nothing,
 }
 
-// Tries one arc: where it can carry something from a vertex that is
-// reached, its far end is reached too. Returns the last number given.
+// Tries one arc: where it can carry something from a vertex that is reached, its far end is reached too.
+// Returns the last number given. Most arcs lead to a vertex that is reached already, so that is tested first.
 fn relax(
     ends: &[u8],
     residual: &[u8],
@@ -30,15 +30,15 @@ fn relax(
     ensures { λ r. ⌜ Relaxed (now (ends .entry)) (now (residual .entry)) arc (now (order .entry)) clock
         (now (order .exit)) (now (trail .exit)) r ⌝ }
 {
+    let to = ends[(arc + EDGE_LIMIT) % ARC_LIMIT] as usize;
+    if order[to] != 0 {
+        return clock;
+    }
     if residual[arc] == 0 {
         return clock;
     }
     let from = ends[arc] as usize;
     if order[from] == 0 {
-        return clock;
-    }
-    let to = ends[(arc + EDGE_LIMIT) % ARC_LIMIT] as usize;
-    if order[to] != 0 {
         return clock;
     }
     let next = clock + 1;

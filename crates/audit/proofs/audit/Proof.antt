@@ -1,34 +1,52 @@
 -- `audit::audit` meets its contract.
-use mathlib.Core.Path.{_≡_, sym, _∙_, ap}
+use mathlib.Core.Path.{_≡_, refl, sym, _∙_, ap}
 use lib.Dec.{eqb}
 use borrow.Author.Needs.{needs}
-use Rattle.connection.specs.Connection.{connected}
+use Rattle.connection.specs.Connection.{connected, reachedCount}
 use Rattle.connection.proofs.Reaching.{connected-count}
 use Rattle.audit.proofs.Answering.{audited-by}
 use Rattle.audit.proofs.audit.Statement.{statement}
 use Rattle.audit.proofs.audit.Tie as tie
 
+-- what the function was given, seen from the search's answer
+abbrev entry : tie.After-count-reached → tie.Start
+entry c = c .before .before .before .before .before .before .before .before .before .before .before .before .before
+
 of-requires : tie.Need-of-requires
 of-requires c κs = search needs
 
-reached-count-requires : tie.Need-reached-count-requires
-reached-count-requires c κs = search needs
+slice-aggregate-count-reached : tie.Need-slice-aggregate-count-reached
+slice-aggregate-count-reached c = search needs
+
+count-reached-requires : tie.Need-count-reached-requires
+count-reached-requires c κs = search needs
+
+-- so many vertices are reached from vertex 0
+reached : (c : tie.After-count-reached) → c .count-reached .result
+    ≡ reachedCount (entry c .args .t1) (entry c .args .t2) 0
+reached c =
+    let start = entry c in
+    c .count-reached .ensures (start .args .t1) (start .pre) refl refl refl (search needs) (start .pre .some)
 
 -- the list joins all vertices exactly if it reaches them all
-whole : (c : tie.After-reached-count)
-    → let a = c .before .before .args in
-    eqb (c .reached-count .result) (a .network .vertices) ≡ connected (a .network) (a .listed)
-whole c =
-    let vertices = c .before .before .args .network .vertices in
-    ap (λ n. eqb n vertices) (c .reached-count .ensures) ∙ sym (connected-count _ _)
+whole : (c : tie.After-count-reached)
+    → let a = entry c .args in eqb (c .count-reached .result) (a .t1 .vertices) ≡ connected (a .t1) (a .t2)
+whole c = ap (λ n. eqb n (entry c .args .t1 .vertices)) (reached c) ∙ sym (connected-count _ _)
 
 critical-count-requires : tie.Need-critical-count-requires
-critical-count-requires c κs = (c .before .before .before .pre, whole (c .before))
+critical-count-requires c κs = (entry c .pre, whole c)
 
 returns : tie.Need-returns
 returns c =
-    let found = c .before .before in
-    audited-by _ _ (whole found) (found .reached-count .ensures) (c .critical-count .ensures)
+    let found = c .before in
+    audited-by _ _ (whole found) (reached found) (c .critical-count .ensures)
 
 pub audit-spec : {M : Type 1} → statement M
-audit-spec = tie.close (tie.spec of-requires reached-count-requires critical-count-requires returns)
+audit-spec =
+    tie.close
+    (tie.spec
+    of-requires
+    slice-aggregate-count-reached
+    count-reached-requires
+    critical-count-requires
+    returns)
