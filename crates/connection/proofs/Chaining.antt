@@ -6,7 +6,7 @@ use Prim.Native.Nat.{ℕ, zero, suc, _+_, _-_, _*_, _≤_, _<_}
 use native.Mathlib.Omega.{arith}
 use lib.ListN.{getD}
 use Rattle.graph.specs.Network.{kept}
-use Rattle.connection.specs.declared.incidence.Incidence.{Incidence}
+use Rattle.connection.specs.declared.ends.Incidence.{Incidence}
 use Rattle.connection.specs.Incidence.{hooked, noted, chained}
 
 module _ (low high : List ℕ) (K : List Bool) (t whole : Incidence) where

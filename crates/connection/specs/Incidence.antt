@@ -7,7 +7,7 @@ use lib.ListN.{getD, set, replicate}
 use Rattle.graph.specs.Network.{kept}
 use Rattle.base.specs.Limits.{vertexLimit, edgeLimit}
 use Rattle.graph.specs.declared.Network.{Network}
-use Rattle.connection.specs.declared.incidence.Incidence.{Incidence}
+use Rattle.connection.specs.declared.ends.Incidence.{Incidence}
 
 -- how many ends there are
 abbrev pub endLimit : ℕ

@@ -10,11 +10,11 @@ ghost use Rattle.connection.specs.Searchable.{Searchable};
 use base::EDGE_LIMIT;
 use graph::Network;
 
-mod incidence;
+mod ends;
 mod search;
 mod words;
 
-pub use incidence::Incidence;
+pub use ends::Incidence;
 
 // How many vertices the listed edges join to the start vertex in any network with these columns of ends, by a search over
 // a table. Nothing is copied, so that one table serves many searches.

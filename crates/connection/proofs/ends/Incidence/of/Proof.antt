@@ -1,8 +1,8 @@
--- `connection::incidence::Incidence::of` meets its contract.
+-- `connection::ends::Incidence::of` meets its contract.
 use borrow.Author.Needs.{needs}
 use Rattle.connection.specs.Incidence.{noEnds, incidence}
-use Rattle.connection.proofs.incidence.Incidence.of.Statement.{statement}
-use Rattle.connection.proofs.incidence.Incidence.of.Tie as tie
+use Rattle.connection.proofs.ends.Incidence.of.Statement.{statement}
+use Rattle.connection.proofs.ends.Incidence.of.Tie as tie
 
 slice-aggregate-chain : tie.Need-slice-aggregate-chain
 slice-aggregate-chain c = search needs

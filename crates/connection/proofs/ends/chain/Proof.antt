@@ -1,4 +1,4 @@
--- `connection::incidence::chain` meets its contract. The loop's
+-- `connection::ends::chain` meets its contract. The loop's
 -- invariant: the ends of the edges below e are left to chain.
 use Prim.Native.Nat.{_-_, _≤_}
 use mathlib.Core.Path.{_≡_, refl}
@@ -7,8 +7,8 @@ use lib.ListN.{length}
 use Rattle.base.specs.Limits.{vertexLimit}
 use Rattle.connection.specs.Incidence.{endLimit, table, chained}
 use Rattle.connection.proofs.Chaining.{chained-listed, chained-unlisted, chained-done}
-use Rattle.connection.proofs.incidence.chain.Statement.{statement}
-use Rattle.connection.proofs.incidence.chain.Tie as tie
+use Rattle.connection.proofs.ends.chain.Statement.{statement}
+use Rattle.connection.proofs.ends.chain.Tie as tie
 
 abbrev Inv-loop : tie.InvT-loop
 Inv-loop low high listed edges first₀ next₀ e₀ first next e =

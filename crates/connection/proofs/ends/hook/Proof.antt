@@ -1,8 +1,8 @@
--- `connection::incidence::hook` meets its contract.
+-- `connection::ends::hook` meets its contract.
 use borrow.Author.Needs.{needs}
 use Rattle.connection.specs.Incidence.{hooked}
-use Rattle.connection.proofs.incidence.hook.Statement.{statement}
-use Rattle.connection.proofs.incidence.hook.Tie as tie
+use Rattle.connection.proofs.ends.hook.Statement.{statement}
+use Rattle.connection.proofs.ends.hook.Tie as tie
 
 mul-next : tie.Need-mul-next
 mul-next c = search needs
