@@ -1,4 +1,5 @@
 pub mod Apart
 pub mod Arcs
+pub mod Ports
 pub mod Search
 pub mod Flow

@@ -1,8 +1,11 @@
 // The arcs of a network: where each starts, and which start at a vertex.
 ghost use lib.ListN.{length};
 ghost use mathlib.Core.Path.{_≡_};
+ghost use Prim.Native.Nat.{_<_};
+ghost use Rattle.base.specs.Limits.{vertexLimit};
 ghost use Rattle.graph.specs.Sound.{Formed};
 ghost use Rattle.flow.specs.Arcs.{arcLimit, Laid};
+ghost use Rattle.flow.specs.Ports.{wiring, plugged, wired};
 use base::EDGE_LIMIT;
 use base::VERTEX_LIMIT;
 use graph::Network;
@@ -28,24 +31,37 @@ pub fn lay(network: Network) -> [u8; ARC_LIMIT]
     ends
 }
 
-// Up to four arcs that start at each vertex: a port of it each. A loop leads nowhere and is left out.
+// Gives an arc the next port of the vertex where it starts, if one is left. A loop leads nowhere and gets none.
+fn plug(ends: &[u8], ports: &mut [u16], used: &mut [usize], arc: usize)
+    requires { ⌜ (length (now ends) ≡ arcLimit) × (length (now ports) ≡ arcLimit) × (length (now used) ≡ vertexLimit) ⌝ }
+    requires { ⌜ arc < arcLimit ⌝ }
+    ensures { λ _. ⌜ wiring (now (ports .exit)) (now (used .exit)) ≡
+        plugged (now (ends .entry)) (wiring (now (ports .entry)) (now (used .entry))) arc ⌝ }
+{
+    let from = ends[arc];
+    if from == ends[(arc + EDGE_LIMIT) % ARC_LIMIT] {
+        return;
+    }
+    let vertex = from as usize;
+    let port = used[vertex];
+    if PORTS <= port {
+        return;
+    }
+    ports[PORTS * vertex + port] = arc as u16;
+    used[vertex] = port + 1;
+}
+
+// Up to four arcs that start at each vertex, each at a port of its own.
 // This is a hint for the search, which stays right whatever stands here.
 pub fn wire(ends: &[u8]) -> [u16; ARC_LIMIT]
     requires { ⌜ length (now ends) ≡ arcLimit ⌝ }
+    ensures { λ r. ⌜ r ≡ wired (now (ends .entry)) arcLimit .ports ⌝ }
 {
     let mut ports = [0u16; ARC_LIMIT];
     let mut used = [0usize; VERTEX_LIMIT];
     let mut arc = 0;
     while arc < ARC_LIMIT {
-        let from = ends[arc];
-        if from != ends[(arc + EDGE_LIMIT) % ARC_LIMIT] {
-            let vertex = from as usize;
-            let port = used[vertex];
-            if port < PORTS {
-                ports[PORTS * vertex + port] = arc as u16;
-                used[vertex] = port + 1;
-            }
-        }
+        plug(ends, &mut ports, &mut used, arc);
         arc += 1;
     }
     ports

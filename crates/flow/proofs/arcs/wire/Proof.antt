@@ -1,67 +1,40 @@
--- `wire` meets its contract: it stays within its tables.
-use Prim.Native.Nat.{_-_, _≤_, _<_}
+-- `wire` meets its contract. The loop's invariant: the arcs passed have their ports.
+use mathlib.Core.List.{List}
+use mathlib.Core.Path.{_≡_, refl, _∙_, ap}
+use Prim.Native.Nat.{ℕ, _+_, _-_, _≤_}
+use native.Mathlib.Numerals.{add-one}
 use native.Mathlib.Omega.{arith}
+use lib.ListN.{length}
 use Rattle.base.specs.Limits.{vertexLimit}
-use Rattle.flow.specs.Arcs.{arcLimit, tail}
+use Rattle.flow.specs.Arcs.{arcLimit}
+use Rattle.flow.specs.Ports.{wiring, plugged, wired}
 use Rattle.flow.proofs.arcs.wire.Statement.{statement}
 use Rattle.flow.proofs.arcs.wire.Tie as tie
 
 abbrev Inv-loop : tie.InvT-loop
-Inv-loop ends ports₀ used₀ arc₀ ports used arc = arc ≤ arcLimit
+Inv-loop ends ports₀ used₀ arc₀ ports used arc =
+    (arc ≤ arcLimit) × (length ports ≡ arcLimit) × (length used ≡ vertexLimit) × (wiring ports used ≡ wired ends arc)
 
 abbrev μ-loop : tie.MeasureT-loop
 μ-loop ends ports₀ used₀ arc₀ ports used arc = arcLimit - arc
 
--- the arc starts at a vertex
-vertex : (c : tie.Then1 Inv-loop μ-loop)
-    → tail (c .before .before .before .before .before .args .ends .now) (c .before .before .before .before .loop .arc) <
-    vertexLimit
-vertex c = omega (arith, c .before .before .shared-slice-known .given (c .before .before .before .before .loop .arc))
+-- one arc more
+wired-more : (ends : List ℕ) (m : ℕ) → plugged ends (wired ends m) m ≡ wired ends (m + 1)
+unfolding wired
+wired-more ends m = rw add-one
 
 loop-holds : tie.Need-loop-holds Inv-loop μ-loop
-loop-holds c = omega arith
+unfolding wired
+loop-holds c = (omega arith, refl, refl, refl)
 
-shared-slice-read-from : tie.Need-shared-slice-read-from Inv-loop μ-loop
-shared-slice-read-from c = omega arith
+slice-aggregate-plug : tie.Need-slice-aggregate-plug Inv-loop μ-loop
+slice-aggregate-plug c = omega arith
 
-add-if1 : tie.Need-add-if1 Inv-loop μ-loop
-add-if1 c = omega arith
+slice-aggregate-plug-2 : tie.Need-slice-aggregate-plug-2 Inv-loop μ-loop
+slice-aggregate-plug-2 c = omega arith
 
-shared-slice-read-if1 : tie.Need-shared-slice-read-if1 Inv-loop μ-loop
-shared-slice-read-if1 c = omega arith
-
-cast-vertex : tie.Need-cast-vertex Inv-loop μ-loop
-cast-vertex c = omega (arith, vertex c)
-
-mul-port : tie.Need-mul-port Inv-loop μ-loop
-mul-port c = omega (arith, vertex c)
-
-array-read-port : tie.Need-array-read-port Inv-loop μ-loop
-array-read-port c = omega (arith, vertex c)
-
-cast-ports : tie.Need-cast-ports Inv-loop μ-loop
-cast-ports c = omega arith
-
-mul-ports : tie.Need-mul-ports Inv-loop μ-loop
-mul-ports c = omega (arith, vertex (c .before))
-
-add-ports : tie.Need-add-ports Inv-loop μ-loop
-add-ports c = omega (arith, vertex (c .before))
-
-mul-ports-2 : tie.Need-mul-ports-2 Inv-loop μ-loop
-mul-ports-2 c = omega (arith, vertex (c .before))
-
-array-write-ports : tie.Need-array-write-ports Inv-loop μ-loop
-array-write-ports c = omega (arith, vertex (c .before))
-
-add-used : tie.Need-add-used Inv-loop μ-loop
-add-used c = omega arith
-
-mul-used : tie.Need-mul-used Inv-loop μ-loop
-mul-used c = omega (arith, vertex (c .before))
-
-array-write-used : tie.Need-array-write-used Inv-loop μ-loop
-array-write-used c = omega (arith, vertex (c .before))
+plug-requires : tie.Need-plug-requires Inv-loop μ-loop
+plug-requires c κs = omega arith
 
 add-arc : tie.Need-add-arc Inv-loop μ-loop
 add-arc c = omega arith
@@ -70,10 +43,20 @@ loop-less : tie.Need-loop-less Inv-loop μ-loop
 loop-less c = omega arith
 
 loop-again : tie.Need-loop-again Inv-loop μ-loop
-loop-again c = omega arith
+loop-again c =
+    let turn = c .before .before .before .before .before .before in
+    let ends = turn .before .before .args .ends .now in
+    let arc = turn .loop .arc in (
+      omega arith,
+      omega arith,
+      omega arith,
+      c .before .before .plug .ensures ∙ ap (λ w. plugged ends w arc) (turn .loop .inv .3) ∙ wired-more ends arc,
+    )
 
 returns : tie.Need-returns Inv-loop μ-loop
-returns c = tt
+returns c =
+    let all : c .before .loop .arc ≡ arcLimit = omega arith in
+    ap (λ w. w .ports) (rw all at (c .before .loop .inv .3))
 
 pub wire-spec : {M : Type 1} → statement M
 wire-spec =
@@ -82,20 +65,9 @@ wire-spec =
     Inv-loop
     μ-loop
     loop-holds
-    shared-slice-read-from
-    add-if1
-    shared-slice-read-if1
-    cast-vertex
-    mul-port
-    array-read-port
-    cast-ports
-    mul-ports
-    add-ports
-    mul-ports-2
-    array-write-ports
-    add-used
-    mul-used
-    array-write-used
+    slice-aggregate-plug
+    slice-aggregate-plug-2
+    plug-requires
     add-arc
     loop-less
     loop-again
