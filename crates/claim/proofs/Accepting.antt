@@ -8,6 +8,7 @@ use lib.ListN.{length}
 use Rattle.base.proofs.Bools.{no-answer}
 use Rattle.base.specs.Answer.{Answer, refused, answer, andThen, unless}
 use Rattle.network_text.specs.Text.{Meaning, readNetwork}
+use Rattle.base.specs.Refusals.{DEGREE, CUT}
 use Rattle.base.proofs.Numbered.{Numbered, answered, unless-numbered, then-numbered, numbered-up}
 use Rattle.loading.specs.Known.{Known}
 use Rattle.loading.specs.Loading.{networkOf, loadNetwork}
@@ -26,11 +27,11 @@ use Rattle.claim.proofs.ChainTexts.{bytes-meant}
 
 -- ── refusals 6 and 7 ──
 module _ (g : Network) where
-  pub degree-refused : fourEach g ≡ false → 6 ≡ networkRefusal g
+  pub degree-refused : fourEach g ≡ false → DEGREE ≡ networkRefusal g
   unfolding networkRefusal
   degree-refused h = rw h
 
-  pub cut-refused : fourEach g ≡ true → everyCut 4 g ≡ false → 7 ≡ networkRefusal g
+  pub cut-refused : fourEach g ≡ true → everyCut 4 g ≡ false → CUT ≡ networkRefusal g
   unfolding networkRefusal
   cut-refused h k = rw (h, k)
 
@@ -49,7 +50,7 @@ unfolding acceptNetwork andThen
 accept-judged t g k e q = rw (e, q)
 
 -- the refusals of the network check are 1 to 7
-pub accept-numbered : (t : List ℕ) → Numbered 7 (acceptNetwork t)
+pub accept-numbered : (t : List ℕ) → Numbered CUT (acceptNetwork t)
 unfolding acceptNetwork
 accept-numbered t =
     then-numbered (loadNetwork t) _ (numbered-up (omega arith) (load-numbered t))

@@ -8,6 +8,7 @@ use lib.ListN.{length, drop}
 use lib.Seq.{drop-drop}
 use borrow.Author.Tests.{le-leb, lt-leb}
 use Rattle.base.specs.Answer.{Answer, answer, refused, unless, refusalOf, numberGiven}
+use Rattle.base.specs.Refusals.{FORM}
 use Rattle.frame.specs.Table.{STEP, DROPPED, lineLength}
 use Rattle.frame.specs.Line.{isLine}
 use Rattle.graph.specs.Split.{split, third, after}
@@ -51,7 +52,7 @@ module _ (g : Network) (t : Step) {w : Answer (List Bool)} where
 
 -- ── endings ──
 module _ (g : Network) (t : List ℕ) where
-  pub ending-broken : isLine DROPPED t ≡ false → checkEnding g t ≡ refused 1
+  pub ending-broken : isLine DROPPED t ≡ false → checkEnding g t ≡ refused FORM
   unfolding checkEnding
   ending-broken h = rw h
 
@@ -73,7 +74,7 @@ module _ (g : Network) (t : List ℕ) where
 
 -- ── steps ──
 module _ (n : ℕ) (g : Network) (t : List ℕ) where
-  pub chain-broken : isLine STEP t ≡ false → checkChain (suc n) g t ≡ refused 1
+  pub chain-broken : isLine STEP t ≡ false → checkChain (suc n) g t ≡ refused FORM
   unfolding checkChain
   chain-broken h = rw h
 
@@ -101,7 +102,7 @@ module _ (g : Network) (text : List ℕ) (at : ℕ) where
     one-more = omega arith
 
     pub chain-at-broken : isLine STEP (drop at text) ≡ false
-        → checkChain (g .remaining - 2) g (drop at text) ≡ refused 1
+        → checkChain (g .remaining - 2) g (drop at text) ≡ refused FORM
     chain-at-broken h = rw (← one-more) (chain-broken (g .remaining - 1 - 2) g (drop at text) h)
 
     -- t is the step that the frame names

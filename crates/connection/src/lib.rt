@@ -16,8 +16,8 @@ mod words;
 
 pub use ends::Incidence;
 
-// How many vertices the listed edges join to the start vertex in any network with these columns of ends, by a search over
-// a table. Nothing is copied, so that one table serves many searches.
+// How many vertices the listed edges join to the start vertex in any network with these columns of ends, by a search
+// over a table. Nothing is copied, so that one table serves many searches.
 pub fn count_reached<'a, 'b>(
     low: &'a [u8],
     high: &'a [u8],

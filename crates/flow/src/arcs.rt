@@ -33,8 +33,8 @@ pub fn lay(network: Network) -> [u8; ARC_LIMIT]
 
 // Gives an arc the next port of the vertex where it starts, if one is left. A loop leads nowhere and gets none.
 fn plug(ends: &[u8], ports: &mut [u16], used: &mut [usize], arc: usize)
-    requires { ⌜ (length (now ends) ≡ arcLimit) × (length (now ports) ≡ arcLimit) × (length (now used) ≡ vertexLimit) ⌝ }
-    requires { ⌜ arc < arcLimit ⌝ }
+    requires { ⌜ (length (now ends) ≡ arcLimit) × (arc < arcLimit) ⌝ }
+    requires { ⌜ (length (now ports) ≡ arcLimit) × (length (now used) ≡ vertexLimit) ⌝ }
     ensures { λ _. ⌜ wiring (now (ports .exit)) (now (used .exit)) ≡
         plugged (now (ends .entry)) (wiring (now (ports .entry)) (now (used .entry))) arc ⌝ }
 {

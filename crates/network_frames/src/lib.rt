@@ -14,7 +14,8 @@ use frame::Line;
 use frame::read_line;
 ghost use mathlib.Core.Path.{_≡_};
 ghost use Rattle.base.specs.Answer.{refusalOf};
-ghost use Rattle.network_frames.specs.Frames.{headRefusal, edgeRefusal, headAnswer, edgeAnswer, readHead, readEdge};
+ghost use Rattle.network_frames.specs.Frames.{headRefusal, edgeRefusal, headAnswer, edgeAnswer};
+ghost use Rattle.network_frames.specs.Frames.{readHead, readEdge};
 
 // What a text starts with: a head and the place behind its line, or a refusal's number.
 pub enum ReadHead {

@@ -1,5 +1,5 @@
--- `digits::hexadecimal::put_number` meets its contract. The loop's invariant: what is left of the number, spelt in front
--- of the digits that are written, is the whole number spelt.
+-- `digits::hexadecimal::put_number` meets its contract. The loop's invariant: what is left of the number,
+-- spelt in front of the digits that are written, is the whole number spelt.
 -- Assumes nothing.
 use mathlib.Core.Path.{_≡_, refl, sym, _∙_}
 use mathlib.Core.List.{[]}

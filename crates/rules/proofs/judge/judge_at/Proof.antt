@@ -20,7 +20,9 @@ judged c = record { v = c .args .v; x = c .args .x; y = c .args .y }
 
 found : (c : tie.After-partners-at) → let p = c .partners-at .result in
     Trio (c .before .args .network) (c .before .args .v) (p .first) (p .second) (p .third)
-found c = trio (c .before .pre .0) (c .before .args .v) (c .before .pre .1) (c .partners-at .result) (c .partners-at .ensures)
+found c =
+    let start = c .before in
+    trio (start .pre .0) (start .args .v) (start .pre .1) (c .partners-at .result) (c .partners-at .ensures)
 
 -- x and the others, where x is a partner
 named-x : (c : tie.After-known-told) → let a = c .before .before .before .before .before .args in
