@@ -1,5 +1,6 @@
 pub mod Bools
 pub mod Sums
+pub mod Picks
 pub mod Integers
 pub mod Parts
 pub mod Filling

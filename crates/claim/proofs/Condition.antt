@@ -27,7 +27,8 @@ use Rattle.graph.specs.Cut.{crosses, crossingsOf, EveryCutOf, crossedBy, everyC
 use Rattle.graph.specs.Plan.{planSteps, planDrop, planKept}
 use Rattle.graph.specs.Sound.{Formed, Fresh}
 use Rattle.graph.specs.declared.Network.{Network}
-use Rattle.base.proofs.Sums.{each-in, pick-among, among-pick}
+use Rattle.base.proofs.Sums.{each-in}
+use Rattle.base.proofs.Picks.{pick-among, among-pick}
 use Rattle.graph.proofs.EveryCut.{every-cut-complete}
 use Rattle.graph.proofs.Checking.{passes-ruled}
 use Rattle.graph.proofs.Backs.{back-good, back-below, check-back, back-check}

@@ -20,7 +20,8 @@ use Rattle.graph.specs.Sound.{Sound}
 use Rattle.graph.specs.Condition.{Good}
 use Rattle.graph.specs.declared.Network.{Network}
 use Rattle.base.proofs.Bools.{never, eqb-self, eqb-no, and-left, and-right}
-use Rattle.base.proofs.Sums.{sum-change-four, sum-zeros, pick-ext, pick-among, among-pick}
+use Rattle.base.proofs.Sums.{sum-change-four, sum-zeros}
+use Rattle.base.proofs.Picks.{pick-ext, pick-among, among-pick}
 use Rattle.base.proofs.Integers.{P, N, nothing, times-P, times-N, ≤ℤ-is, is-≤ℤ, sumℤ-four}
 use Rattle.graph.proofs.Stars.{counted, Runs, runs-crosses, Star}
 use Rattle.graph.proofs.Partners.{another, no-third, touch-ends, touches-at, touches-ends, no-loop, runs-here}

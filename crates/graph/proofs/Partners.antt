@@ -18,7 +18,8 @@ use Rattle.graph.specs.Sound.{Formed, Sound}
 use Rattle.graph.specs.declared.Network.{Network}
 use Rattle.base.proofs.Bools.{never, eqb-self, eqb-no, eqb-is, and-left, and-right, bit-true}
 use Rattle.base.proofs.Sums.{sum-ext, sum-add, sum-change, sum-zero-at, sum-positive, sum-out, term-le, out, out-same}
-use Rattle.base.proofs.Sums.{out-other, pick-length, Picked, pick-cons, pick-nil}
+use Rattle.base.proofs.Sums.{out-other}
+use Rattle.base.proofs.Picks.{pick-length, Picked, pick-cons, pick-nil}
 use Rattle.graph.proofs.Stars.{Runs, forward, backward, Star, swap-others, swap-first}
 
 -- ── present vertices ──

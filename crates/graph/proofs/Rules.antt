@@ -17,7 +17,7 @@ use Rattle.graph.specs.Sound.{Formed, Sound}
 use Rattle.graph.specs.declared.Network.{Network}
 use Rattle.graph.specs.declared.Step.{Step}
 use Rattle.base.proofs.Bools.{never, true-T, T-true, eqb-self, eqb-no, eqb-is, and-left, and-right, and-both}
-use Rattle.base.proofs.Sums.{pick-among, among-pick}
+use Rattle.base.proofs.Picks.{pick-among, among-pick}
 use Rattle.graph.proofs.EveryCut.{every-cut-sound, every-cut-complete}
 use Rattle.graph.proofs.Stars.{differ-comm, Runs, forward, backward, Star, swap-others, crossings-split}
 use Rattle.graph.proofs.Partners.{another, touches-at, touches-ends, touches-runs, runs-here, three-partners}

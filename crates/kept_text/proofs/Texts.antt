@@ -5,8 +5,6 @@ use mathlib.Core.Bool.{Bool, true, false, cond, _&&_}
 use mathlib.Core.List.{List, [], _∷_, _++_, map}
 use Prim.Native.Nat.{ℕ, zero, suc, _+_, _*_, _-_, _≤_, _<_}
 use native.Mathlib.Omega.{arith}
-use native.Mathlib.Numerals.{add-one}
-use native.Mathlib.Nat.{sub-zero, zero-add, suc-add}
 use lib.Dec.{ltb}
 use lib.ListN.{length, length-append, List·getD-eq-default}
 use lib.IntN.{ℤ}
@@ -16,7 +14,7 @@ use Rattle.base.specs.Fold.{pick, among}
 use Rattle.base.specs.Lengths.{longestKept}
 use Rattle.base.specs.Limits.{verticesOk, edgeLimit}
 use Rattle.base.proofs.Bools.{same-test, and-both, and-left, and-right}
-use Rattle.base.proofs.Sums.{pick-among, among-pick}
+use Rattle.base.proofs.Picks.{pick-few, pick-kept, pick-beyond, pick-among, among-pick}
 use Rattle.frame.specs.Table.{KEPT, COSTS, bytesOf, padded, total, placeOf, startOf, lineLength}
 use Rattle.frame.specs.Line.{lineOf}
 use Rattle.frame.specs.Frames.{listed, linesOf}
@@ -28,47 +26,11 @@ use Rattle.kept_text.specs.Text.{isKept, keptEdges, keptText, keptLength
 use Rattle.list_text.proofs.OneToOne.{one-to-one}
 use Rattle.list_text.proofs.Texts.{length-list}
 
-module _ (p : ℕ → Bool) where
-  -- the picked numbers that are left from a place on
-  pub pick-start : (n : ℕ) → pick (n - 0) 0 p ≡ pick n 0 p
-  pick-start n = rw sub-zero
-
-  pub pick-end : (n k : ℕ) → n ≤ k → pick (n - k) k p ≡ []
-  unfolding pick
-  pick-end n k h = let e : n - k ≡ 0 = omega arith in rw e
-
-  module _ (n k : ℕ) (h : k < n) where
-    pub pick-kept : p k ≡ true → pick (n - k) k p ≡ k ∷ pick (n - (k + 1)) (k + 1) p
-    unfolding pick
-    pick-kept t = let e : n - k ≡ suc (n - (k + 1)) = omega arith in rw (e, add-one, t)
-
-    pub pick-other : p k ≡ false → pick (n - k) k p ≡ pick (n - (k + 1)) (k + 1) p
-    unfolding pick
-    pick-other t = let e : n - k ≡ suc (n - (k + 1)) = omega arith in rw (e, add-one, t)
-
-    -- the text that is left, where the number at the place is kept
-    pub text-kept : p k ≡ true
-        → listText (pick (n - k) k p) ≡ lineOf KEPT (frameOf k) ++ listText (pick (n - (k + 1)) (k + 1) p)
-    unfolding listText linesOf
-    text-kept t = ap listText (pick-kept t)
-
-  few-picked : (n k : ℕ) → length (pick n k p) ≤ n
-  unfolding pick
-  few-picked zero k = omega arith
-  few-picked (suc n) k = go (p k) (few-picked n (suc k))
-    where
-      go : (b : Bool) → length (pick n (suc k) p) ≤ n
-          → length (cond b (k ∷ pick n (suc k) p) (pick n (suc k) p)) ≤ suc n
-      go true h = omega arith
-      go false h = omega arith
-
--- nothing is picked beyond the last number of which a test holds
-pick-beyond : (p : ℕ → Bool) (n more k : ℕ) → ((i : ℕ) → k + n ≤ i → p i ≡ false) → pick (n + more) k p ≡ pick n k p
-unfolding pick
-pick-beyond p zero zero k h = refl
-pick-beyond p zero (suc more) k h =
-    rw (zero-add, h k (omega arith)) (rw zero-add at (pick-beyond p zero more (suc k) (λ i l. h i (omega arith))))
-pick-beyond p (suc n) more k h = rw (suc-add, pick-beyond p n more (suc k) (λ i l. h i (omega arith)))
+-- the text that is left, where the number at the place is kept
+pub text-kept : (p : ℕ → Bool) (n k : ℕ) → k < n → p k ≡ true
+    → listText (pick (n - k) k p) ≡ lineOf KEPT (frameOf k) ++ listText (pick (n - (k + 1)) (k + 1) p)
+unfolding listText linesOf
+text-kept p n k h t = ap listText (pick-kept p n k h t)
 
 -- an edge beyond the marks isn't kept
 pub marks-end : (marks : List Bool) (n m : ℕ) → length marks ≤ m → m ≤ n → keptEdges n marks ≡ keptEdges m marks
@@ -143,7 +105,7 @@ kept-short count h = omega arith
 
 pub few-kept : (n : ℕ) (marks : List Bool) → length (keptEdges n marks) ≤ n
 unfolding keptEdges
-few-kept n marks = few-picked (isKept marks) n 0
+few-kept n marks = pick-few n 0 (isKept marks)
 
 -- the costs are left to write behind the kept edges
 pub costs-left : (es : List ℕ) (kept unreserved : ℤ) (old out : List ℕ) (at : ℕ) → at ≡ length (listText es)

@@ -7,7 +7,7 @@ use lib.ListN.{length}
 use borrow.Author.Needs.{needs}
 use Rattle.base.specs.Fold.{pick}
 use Rattle.kept_text.specs.Text.{isKept, keptEdges}
-use Rattle.kept_text.proofs.Texts.{pick-start, pick-kept, pick-other, pick-end}
+use Rattle.base.proofs.Picks.{pick-start, pick-kept, pick-other, pick-end}
 use Rattle.kept_text.proofs.count_kept.Statement.{statement}
 use Rattle.kept_text.proofs.count_kept.Tie as tie
 

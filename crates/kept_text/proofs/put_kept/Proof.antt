@@ -14,7 +14,8 @@ use Rattle.frame.specs.Frames.{linesOf}
 use Rattle.frame.proofs.Writing.{Written, written-none, written-all, written-size, line-within, line-room, line-more}
 use Rattle.list_text.specs.Text.{frameOf, listText}
 use Rattle.kept_text.specs.Text.{isKept, keptEdges}
-use Rattle.kept_text.proofs.Texts.{pick-start, pick-other, pick-end, text-kept}
+use Rattle.base.proofs.Picks.{pick-start, pick-other, pick-end}
+use Rattle.kept_text.proofs.Texts.{text-kept}
 use Rattle.kept_text.proofs.put_kept.Statement.{statement}
 use Rattle.kept_text.proofs.put_kept.Tie as tie
 
