@@ -7,7 +7,6 @@ use native.Mathlib.Decide.{ℕ-discrete}
 use native.Mathlib.Numerals.{add-one}
 use lib.ListN.{length, take, drop, getD, set, length-append, length-set}
 use lib.Seq.{getD-set-same, getD-set-other, append-snoc, drop-cons, length-take-le, set-at, take-suc}
-use lib.Seq.{take-suc-set}
 use Rattle.base.specs.Answer.{over}
 use Rattle.base.specs.Fold.{tabulate}
 use Rattle.base.proofs.Sums.{tabulate-is}
@@ -41,9 +40,6 @@ module _ {A : Type 0} {n : ℕ} {f : ℕ → A} {d : A} where
 module _ {A : Type 0} where
   pub take-next : (xs : List A) (i : ℕ) (d : A) → i < length xs → take (i + 1) xs ≡ take i xs ++ (getD xs i d ∷ [])
   take-next xs i d h = rw add-one (take-suc xs i d h)
-
-  pub take-set : (xs : List A) (i : ℕ) (a : A) → i < length xs → take (i + 1) (set xs i a) ≡ take i xs ++ (a ∷ [])
-  take-set xs i a h = rw add-one (take-suc-set xs i a h)
 
   pub over-set : (xs old : List A) (i : ℕ) (a : A) → i ≡ length xs → i < length old
       → set (over xs old) i a ≡ over (xs ++ (a ∷ [])) old
