@@ -1,4 +1,4 @@
--- The refusals, by document 01's numbers.
+-- The refusals, by the numbers of documents 01 and 02.
 use Prim.Native.Nat.{ℕ}
 
 -- a broken line, a wrong kind or length for its place, missing frames, bytes left over
@@ -56,3 +56,11 @@ SHORT = 13
 -- a listed edge that is not the network's, or not above the one before
 abbrev pub UNLISTED : ℕ
 UNLISTED = 14
+
+-- a span's doubled weight, or a pair of ends that is not above the one before
+abbrev pub WEIGHT : ℕ
+WEIGHT = 15
+
+-- more spans than a network has edges, or weights that total another number
+abbrev pub TOTAL : ℕ
+TOTAL = 16

@@ -29,6 +29,8 @@ pub use refusals::NOT_ADMISSIBLE;
 pub use refusals::NOT_DEAREST;
 pub use refusals::RESERVED;
 pub use refusals::SHORT;
+pub use refusals::TOTAL;
 pub use refusals::UNLISTED;
 pub use refusals::VERTICES;
+pub use refusals::WEIGHT;
 pub use reply::Reply;

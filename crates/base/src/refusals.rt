@@ -1,4 +1,4 @@
-// The refusals, by document 01's numbers; specs/Refusals.antt has the same table.
+// The refusals, by the numbers of documents 01 and 02; specs/Refusals.antt has the same table.
 
 // A broken line, a wrong kind or length, missing frames, bytes left over.
 pub const FORM: u8 = 1;
@@ -41,3 +41,9 @@ pub const SHORT: u8 = 13;
 
 // A listed edge that is not the network's, or not above the one before.
 pub const UNLISTED: u8 = 14;
+
+// A span's doubled weight, or a pair of ends that is not above the one before.
+pub const WEIGHT: u8 = 15;
+
+// More spans than a network has edges, or weights that total another number.
+pub const TOTAL: u8 = 16;

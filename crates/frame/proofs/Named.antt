@@ -9,11 +9,11 @@ use lib.ListN.{length, take, getD, length-map, List·getD-map}
 use lib.Seq.{take-nil}
 use lib.Signed.{mag}
 use Rattle.frame.specs.Table.{table, fields, padded, bytesOf, widths, digitsOf, HEAD, EDGE, STEP, DROPPED, KEPT}
-use Rattle.frame.specs.Table.{COSTS, REFUSAL}
+use Rattle.frame.specs.Table.{COSTS, TABLE-HEAD, SPAN, REFUSAL}
 use Rattle.frame.specs.Line.{listOf, fieldsFrom, FitAll, Fits}
 use Rattle.frame.specs.Kinds.{headOf, ofHead, costDigits, edgeOf, ofEdge, stepOf, ofStep, droppedOf, ofDropped}
 use Rattle.frame.specs.Kinds.{keptOf, ofKept, keptDigits, unreservedDigits, costsOf, ofCosts, refusalIn}
-use Rattle.frame.specs.Kinds.{ofRefusal}
+use Rattle.frame.specs.Kinds.{ofRefusal, tableHeadOf, ofTableHead, spanCostDigits, spanOf, ofSpan}
 use Rattle.frame.specs.declared.line.Fields.{Fields}
 use Rattle.frame.specs.declared.kinds.Edge.{Edge}
 use Rattle.frame.specs.declared.kinds.Costs.{Costs}
@@ -67,12 +67,19 @@ dropped-back = present DROPPED
 pub kept-back : (f : Fields) → Fits KEPT f → ofKept (keptOf f) ≡ f
 kept-back = present KEPT
 
+pub table-head-back : (f : Fields) → Fits TABLE-HEAD f → ofTableHead (tableHeadOf f) ≡ f
+table-head-back = present TABLE-HEAD
+
 pub refusal-back : (f : Fields) → Fits REFUSAL f → ofRefusal (refusalIn f) ≡ f
 refusal-back = present REFUSAL
 
 pub edge-back : (f : Fields) → Fits EDGE f → ofEdge (edgeOf f) ≡ f
 unfolding costDigits
 edge-back f x = rw (unsigned-signed (digitsOf EDGE 3) (f .fourth) (fits-at EDGE f x 3 (lit< tt))) (present EDGE f x)
+
+pub span-back : (f : Fields) → Fits SPAN f → ofSpan (spanOf f) ≡ f
+unfolding spanCostDigits
+span-back f x = rw (unsigned-signed (digitsOf SPAN 3) (f .fourth) (fits-at SPAN f x 3 (lit< tt))) (present SPAN f x)
 
 pub costs-back : (f : Fields) → Fits COSTS f → ofCosts (costsOf f) ≡ f
 unfolding keptDigits unreservedDigits

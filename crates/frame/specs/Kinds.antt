@@ -1,7 +1,7 @@
 -- The frames of each kind with their fields by name, and the fields as a line spells them.
 use mathlib.Core.List.{[], _∷_}
 use Prim.Native.Nat.{ℕ}
-use Rattle.frame.specs.Table.{EDGE, COSTS, digitsOf}
+use Rattle.frame.specs.Table.{EDGE, COSTS, SPAN, digitsOf}
 use Rattle.frame.specs.Line.{fieldsFrom}
 use Rattle.digits.specs.Sign.{signedOf, unsignedOf}
 use Rattle.frame.specs.declared.line.Fields.{Fields}
@@ -11,6 +11,8 @@ use Rattle.frame.specs.declared.kinds.Step.{Step}
 use Rattle.frame.specs.declared.kinds.Dropped.{Dropped}
 use Rattle.frame.specs.declared.kinds.Kept.{Kept}
 use Rattle.frame.specs.declared.kinds.Costs.{Costs}
+use Rattle.frame.specs.declared.kinds.TableHead.{TableHead}
+use Rattle.frame.specs.declared.kinds.Span.{Span}
 use Rattle.frame.specs.declared.kinds.Refusal.{Refusal}
 
 -- kind 01: n and the reserved cable
@@ -20,7 +22,7 @@ headOf f = record { vertices = f .first; reserved = f .second }
 abbrev pub ofHead : Head → Fields
 ofHead h = fieldsFrom (h .vertices ∷ h .reserved ∷ [])
 
--- how many digits the signed fields have: the cost of kind 02, and the two of kind 06
+-- how many digits the signed fields have: the cost of kind 02, the two of kind 06, and the cost of kind 09
 unfoldable pub costDigits : ℕ
 costDigits = digitsOf EDGE 3
 
@@ -29,6 +31,9 @@ keptDigits = digitsOf COSTS 0
 
 unfoldable pub unreservedDigits : ℕ
 unreservedDigits = digitsOf COSTS 1
+
+unfoldable pub spanCostDigits : ℕ
+spanCostDigits = digitsOf SPAN 3
 
 -- kind 02: a cable, its lower and its higher end, its cost
 abbrev pub edgeOf : Fields → Edge
@@ -66,6 +71,21 @@ costsOf f =
 
 abbrev pub ofCosts : Costs → Fields
 ofCosts c = fieldsFrom (unsignedOf keptDigits (c .kept) ∷ unsignedOf unreservedDigits (c .unreserved) ∷ [])
+
+-- kind 08: n, the reserved cable and the span count
+abbrev pub tableHeadOf : Fields → TableHead
+tableHeadOf f = record { vertices = f .first; reserved = f .second; spans = f .third }
+
+abbrev pub ofTableHead : TableHead → Fields
+ofTableHead h = fieldsFrom (h .vertices ∷ h .reserved ∷ h .spans ∷ [])
+
+-- kind 09: a span, its lower and its higher end, its doubled weight, its cost
+abbrev pub spanOf : Fields → Span
+spanOf f =
+    record { lower = f .first; higher = f .second; weight = f .third; cost = signedOf spanCostDigits (f .fourth) }
+
+abbrev pub ofSpan : Span → Fields
+ofSpan s = fieldsFrom (s .lower ∷ s .higher ∷ s .weight ∷ unsignedOf spanCostDigits (s .cost) ∷ [])
 
 -- kind 0f: a refusal
 abbrev pub refusalIn : Fields → Refusal

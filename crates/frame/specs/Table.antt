@@ -1,4 +1,4 @@
--- The table of frames, as document 01 prints it.
+-- The table of frames, as documents 01 and 02 print it.
 use mathlib.Core.List.{List, [], _∷_, map}
 use Prim.Native.Nat.{ℕ, zero, suc, _+_, _*_}
 use lib.ListN.{getD, take}
@@ -12,14 +12,17 @@ table =
     (0x04, 2 ∷ []) ∷
     (0x05, 2 ∷ []) ∷
     (0x06, 8 ∷ 8 ∷ []) ∷
+    (0x08, 2 ∷ 2 ∷ 2 ∷ []) ∷
+    (0x09, 2 ∷ 2 ∷ 1 ∷ 4 ∷ []) ∷
     (0x0f, 1 ∷ []) ∷ []
 
 -- how many rows the table has
 abbrev pub rows : ℕ
-rows = 7
+rows = 9
 
 -- the rows by name: a network's head and its edges, a chain's
--- steps and its ending, kept edges and their costs, a refusal
+-- steps and its ending, kept edges and their costs, a solver
+-- table's head and its spans, a refusal
 abbrev pub HEAD : ℕ
 HEAD = 0
 
@@ -38,8 +41,14 @@ KEPT = 4
 abbrev pub COSTS : ℕ
 COSTS = 5
 
+abbrev pub TABLE-HEAD : ℕ
+TABLE-HEAD = 6
+
+abbrev pub SPAN : ℕ
+SPAN = 7
+
 abbrev pub REFUSAL : ℕ
-REFUSAL = 6
+REFUSAL = 8
 
 -- how many fields a frame can have
 abbrev pub fields : ℕ

@@ -3,16 +3,18 @@ use super::line::ABSENT;
 use super::line::Fields;
 use super::table::COSTS;
 use super::table::EDGE;
+use super::table::SPAN;
 use super::table::digits_of;
 use digits::signed_of;
 use digits::unsigned_of;
 ghost use mathlib.Core.Path.{_≡_};
 ghost use Prim.Native.Nat.{_*_, _^_, _<_};
 ghost use lib.Signed.{mag};
-ghost use Rattle.frame.specs.Table.{EDGE, COSTS};
+ghost use Rattle.frame.specs.Table.{EDGE, COSTS, SPAN};
 ghost use Rattle.frame.specs.Line.{Fits};
 ghost use Rattle.frame.specs.Kinds.{headOf, ofHead, edgeOf, ofEdge, costDigits, stepOf, ofStep, droppedOf};
-ghost use Rattle.frame.specs.Kinds.{ofDropped, keptOf, ofKept, costsOf, ofCosts, refusalIn, ofRefusal};
+ghost use Rattle.frame.specs.Kinds.{ofDropped, keptOf, ofKept, costsOf, ofCosts, tableHeadOf, spanOf, refusalIn};
+ghost use Rattle.frame.specs.Kinds.{ofRefusal};
 
 // Kind 01: how many vertices a network has, and its reserved edge.
 pub struct Head {
@@ -51,6 +53,21 @@ pub struct Costs {
     pub unreserved: i64,
 }
 
+// Kind 08: how many vertices a table's network has, its reserved edge, and how many spans the table has.
+pub struct TableHead {
+    pub vertices: u64,
+    pub reserved: u64,
+    pub spans: u64,
+}
+
+// Kind 09: a span, its two ends, its doubled weight and its cost.
+pub struct Span {
+    pub lower: u64,
+    pub higher: u64,
+    pub weight: u64,
+    pub cost: i64,
+}
+
 // Kind 0f: a refusal.
 pub struct Refusal {
     pub number: u64,
@@ -62,6 +79,8 @@ const EDGE_COST: usize = 3;
 const COSTS_KEPT: usize = 0;
 
 const COSTS_UNRESERVED: usize = 1;
+
+const SPAN_COST: usize = 3;
 
 impl Head {
     pub fn of(f: Fields) -> Self
@@ -186,6 +205,32 @@ impl Costs {
             first: unsigned_of(self.kept, digits_of(COSTS, COSTS_KEPT)),
             second: unsigned_of(self.unreserved, digits_of(COSTS, COSTS_UNRESERVED)),
             ..ABSENT
+        }
+    }
+}
+
+impl TableHead {
+    pub fn of(f: Fields) -> Self
+        ensures { λ r. ⌜ r ≡ tableHeadOf f ⌝ }
+    {
+        TableHead {
+            vertices: f.first,
+            reserved: f.second,
+            spans: f.third,
+        }
+    }
+}
+
+impl Span {
+    pub fn of(f: Fields) -> Self
+        requires { ⌜ Fits SPAN f ⌝ }
+        ensures { λ r. ⌜ r ≡ spanOf f ⌝ }
+    {
+        Span {
+            lower: f.first,
+            higher: f.second,
+            weight: f.third,
+            cost: signed_of(f.fourth, digits_of(SPAN, SPAN_COST)),
         }
     }
 }

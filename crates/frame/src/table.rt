@@ -9,7 +9,7 @@ pub const FIELDS: usize = 5;
 // The columns of the table: the kind, the place of each field, the length.
 const COLUMNS: usize = 1 + FIELDS + 1;
 
-const ROWS: usize = 7;
+const ROWS: usize = 9;
 
 // The rows of the table, by what their frames say.
 pub const HEAD: usize = 0;
@@ -24,7 +24,11 @@ pub const KEPT: usize = 4;
 
 pub const COSTS: usize = 5;
 
-pub const REFUSAL: usize = 6;
+pub const TABLE_HEAD: usize = 6;
+
+pub const SPAN: usize = 7;
+
+pub const REFUSAL: usize = 8;
 
 // A row has the kind, the byte at which each field starts, and the length in bytes. A field ends where the next one
 // starts; an absent field has no bytes.
@@ -35,6 +39,8 @@ const TABLE: [[u8; COLUMNS]; ROWS] = [
     [0x04, 1, 3, 3, 3, 3, 3],
     [0x05, 1, 3, 3, 3, 3, 3],
     [0x06, 1, 9, 17, 17, 17, 17],
+    [0x08, 1, 3, 5, 7, 7, 7],
+    [0x09, 1, 3, 5, 6, 10, 10],
     [0x0f, 1, 2, 2, 2, 2, 2],
 ];
 

@@ -12,7 +12,7 @@ use Rattle.network_frames.specs.declared.ReadEdge.{ReadEdge}
 use Rattle.network_frames.specs.declared.ReadEdge.the-variants as edge
 
 -- the number that a refusal is asked for is its own
-own-number : {M : Type 0} (b a : Answer M) (j k : ℕ) → b ≡ refused k → j ≡ refusalOf b → b ≡ a → refused j ≡ a
+pub own-number : {M : Type 0} (b a : Answer M) (j k : ℕ) → b ≡ refused k → j ≡ refusalOf b → b ≡ a → refused j ≡ a
 unfolding refusalOf
 own-number b a j k e n x = let z : j ≡ k = rw e at n in rw (z, ← e) x
 
