@@ -23,6 +23,17 @@ use Rattle.frame.proofs.Lines.{formed, line-fits}
 pub read-as : {l case : Line} {a : Answer Placed} → l ≡ case → answerOf l ≡ a → answerOf case ≡ a
 read-as e r = ap answerOf (sym e) ∙ r
 
+-- a line's only refusal is its form
+pub only-form : (row : ℕ) (text : List ℕ) (at j : ℕ) → refused j ≡ readLine row text at → j ≡ FORM
+unfolding readLine lineAt
+only-form row text at j x = go (isLine row (drop at text)) x
+  where
+    go : (b : Bool)
+        → refused j ≡ cond b (answer (placed (fieldsOf row (drop at text)) (at + lineLength row))) (refused FORM)
+        → j ≡ FORM
+    go true y = no-answer (cc)
+    go false y = cc
+
 -- what a reader learns from a line that it reads at a place
 pub record Next (row at : ℕ) (text : List ℕ) (f : Fields) (next : ℕ) : Type 0 where
   pub is : isLine row (drop at text) ≡ true

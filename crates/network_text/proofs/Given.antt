@@ -6,23 +6,22 @@ use mathlib.Core.Logic.{inl, inr}
 use mathlib.Core.List.{List}
 use Prim.Native.Nat.{ℕ, _*_, _≤_, _<_}
 use native.Mathlib.Omega.{arith}
-use lib.ListN.{length, take, drop, length-append}
-use lib.Seq.{take-at}
+use lib.ListN.{length, take}
 use lib.IntN.{ℤ}
 use borrow.Author.Tests.{le-leb, lt-leb}
 use Rattle.base.proofs.Bools.{no-answer}
 use Rattle.base.specs.Answer.{Answer, refused, answer, filled, over, roomIn}
 use Rattle.base.specs.Refusals.{SHORT}
 use Rattle.base.proofs.Answers.{given-refused, given-fits, given-short}
+use Rattle.base.proofs.Held.{Starts, held-starts}
 use Rattle.base.specs.Limits.{vertexLimit}
 use Rattle.network_text.specs.Text.{Meaning, Valid, readNetwork, readReply, roomFor, readGiven}
 use Rattle.network_text.specs.Columns.{Columns, NetworkRead, ReadInto}
 use Rattle.network_text.specs.declared.network.ReadNetwork.{ReadNetwork}
 use Rattle.network_text.specs.declared.network.ReadNetwork.the-variants.{Read, Refused}
 use Rattle.network_text.proofs.Columns.{SomeOf}
-use Rattle.network_text.proofs.Meaning.{read-valid}
 
-reply-refused : (a : Answer Meaning) (k : ℕ) {reply : ReadNetwork} → reply ≡ Refused k → reply ≡ readReply a
+pub reply-refused : (a : Answer Meaning) (k : ℕ) {reply : ReadNetwork} → reply ≡ Refused k → reply ≡ readReply a
     → a ≡ refused k
 unfolding readReply
 reply-refused (refused j) k e x = let z : j ≡ k = cc in ap refused z
@@ -34,26 +33,10 @@ unfolding readReply
 reply-read (refused j) n r e x = no-answer (cc)
 reply-read (answer m) n r e x = (m, refl, cc, cc)
 
--- a column that starts with a list of so many elements
-pub record Starts {A : Type 0} (k : ℕ) (xs column : List A) : Type 0 where
-  pub count : length xs ≡ k
-  pub long : k ≤ length column
-  pub first : take k column ≡ xs
-
-starts : {A : Type 0} (k : ℕ) (xs old : List A) {column : List A} → length xs ≡ k → column ≡ over xs old
-    → Starts k xs column
-unfolding over
-starts k xs old n x =
-    record {
-      count = n;
-      long = rw x (omega (arith, length-append xs (drop (length xs) old)));
-      first = rw x (take-at xs (drop (length xs) old) k n);
-    }
-
 -- what working columns hold that a network was read into
-pub record Stored (t lows highs : List ℕ) (costs : List ℤ) (n r : ℕ) : Type 0 where
+pub record Stored (a : Answer Meaning) (lows highs : List ℕ) (costs : List ℤ) (n r : ℕ) : Type 0 where
   pub meaning : Meaning
-  pub is : readNetwork t ≡ answer meaning
+  pub is : a ≡ answer meaning
   pub vertices : n ≡ meaning .vertices
   pub reserved : r ≡ meaning .reserved
   pub valid : Valid meaning
@@ -62,14 +45,14 @@ pub record Stored (t lows highs : List ℕ) (costs : List ℤ) (n r : ℕ) : Typ
   pub high : Starts (2 * n) (meaning .high) highs
   pub cost : Starts (2 * n) (meaning .cost) costs
 
-pub stored : {t low₀ high₀ : List ℕ} {cost₀ : List ℤ} {lows highs : List ℕ} {costs : List ℤ} {n r : ℕ}
-    {reply : ReadNetwork} → reply ≡ Read n r → NetworkRead (readNetwork t) low₀ high₀ cost₀ lows highs costs reply
-    → Stored t lows highs costs n r
-stored {t} {low₀} {high₀} {cost₀} {n = n} {r = r} q x =
-    let p = reply-read (readNetwork t) n r q (x .reply) in
+pub stored : {a : Answer Meaning} {low₀ high₀ : List ℕ} {cost₀ : List ℤ} {lows highs : List ℕ} {costs : List ℤ}
+    {n r : ℕ} {reply : ReadNetwork} → ((m : Meaning) → a ≡ answer m → Valid m) → reply ≡ Read n r
+    → NetworkRead a low₀ high₀ cost₀ lows highs costs reply
+    → Stored a lows highs costs n r
+stored {a} {low₀} {high₀} {cost₀} {n = n} {r = r} valid q x =
+    let p = reply-read a n r q (x .reply) in
     let m = p .0 in
-    let y = rw (p .1) at x in
-    let v = read-valid t m (p .1) in
+    let v = valid m (p .1) in
     let e = p .2 in
     record {
       meaning = m;
@@ -78,9 +61,9 @@ stored {t} {low₀} {high₀} {cost₀} {n = n} {r = r} q x =
       reserved = p .3;
       valid = v;
       few = omega (arith, v .few);
-      low = starts (2 * n) (m .low) low₀ (omega (arith, v .low-count)) (y .lows);
-      high = starts (2 * n) (m .high) high₀ (omega (arith, v .high-count)) (y .highs);
-      cost = starts (2 * n) (m .cost) cost₀ (omega (arith, v .cost-count)) (y .costs);
+      low = held-starts (λ m. m .low) low₀ (p .1) (x .lows) (omega (arith, v .low-count));
+      high = held-starts (λ m. m .high) high₀ (p .1) (x .highs) (omega (arith, v .high-count));
+      cost = held-starts (λ m. m .cost) cost₀ (p .1) (x .costs) (omega (arith, v .cost-count));
     }
 
 -- what buffers hold that the columns are copied to
@@ -98,7 +81,8 @@ module _ (low high : List ℕ) (cost : List ℤ) where
       let none = reply-refused (readNetwork t) k q (x .reply) in
       rw q (refuses t k (given-refused (roomFor low high cost) (readNetwork t) k none))
 
-  module _ {t lows highs : List ℕ} {costs : List ℤ} {n r : ℕ} (w : Stored t lows highs costs n r) where
+  module _ (t : List ℕ) {lows highs : List ℕ} {costs : List ℤ} {n r : ℕ}
+      (w : Stored (readNetwork t) lows highs costs n r) where
     room-short : SomeOf (λ k. k < 2 * n) low high cost → roomFor low high cost (w .meaning) ≡ false
     unfolding roomFor roomIn
     room-short (inl h) = rw (w .low .count, lt-leb (2 * n) (length low) h)

@@ -18,7 +18,7 @@ use Rattle.frame.specs.Frames.{framesOf}
 use Rattle.frame.specs.declared.line.Fields.{Fields}
 use Rattle.frame.specs.declared.kinds.Head.{Head}
 use Rattle.frame.specs.declared.kinds.Edge.{Edge}
-use Rattle.frame.proofs.Runs.{next-read, run-next, run-broken, run-left, run-done}
+use Rattle.frame.proofs.Runs.{next-read, only-form, run-next, run-broken, run-left, run-done}
 use Rattle.network_frames.specs.Frames.{edgeRefusal, found, readHead, edgeIn, readEdge}
 use Rattle.network_frames.proofs.Passed.{HeadPassed, EdgePassed, edge-passed, head-fine}
 use Rattle.network_text.specs.Text.{Meaning, Edges, next, interrupted, checked, meaningOf, inFrames}
@@ -39,17 +39,6 @@ rows-due : (n : ℕ) → length (replicate (2 * n) EDGE) ≡ 2 * n
 rows-due n = length-replicate (2 * n) EDGE
 
 -- ── the edge at a place, as it is read by itself ──
-
--- a line's only refusal is its form
-only-form : (row : ℕ) (text : List ℕ) (at j : ℕ) → refused j ≡ readLine row text at → j ≡ FORM
-unfolding readLine lineAt
-only-form row text at j x = go (isLine row (drop at text)) x
-  where
-    go : (b : Bool)
-        → refused j ≡ cond b (answer (placed (fieldsOf row (drop at text)) (at + lineLength row))) (refused FORM)
-        → j ≡ FORM
-    go true y = no-answer (cc)
-    go false y = cc
 
 -- what an edge decides that is read: it has passed, and the next one is due behind it
 pub record EdgeFound (n : ℕ) (text : List ℕ) (at i : ℕ) (e : Edge) (behind : ℕ) : Type 0 where
@@ -201,25 +190,16 @@ module _ {text : List ℕ} {n r : ℕ} {low₀ high₀ : List ℕ} {cost₀ : Li
           costs = w .costs;
         }
 
--- ── what the reader into columns replies ──
-module _ (text : List ℕ) {low₀ high₀ : List ℕ} {cost₀ : List ℤ} where
-  -- nothing is stored before the head has passed
-  pub columns-untouched : {k : ℕ} → readNetwork text ≡ refused k
-      → NetworkRead (readNetwork text) low₀ high₀ cost₀ low₀ high₀ cost₀ (Refused k)
+-- ── what a reader into columns replies, by its answer ──
+module _ {a : Answer Meaning} {low₀ high₀ : List ℕ} {cost₀ : List ℤ} {low high : List ℕ} {cost : List ℤ} where
+  pub columns-refused : {k : ℕ} → a ≡ refused k → length low ≡ length low₀ → length high ≡ length high₀
+      → length cost ≡ length cost₀
+      → NetworkRead a low₀ high₀ cost₀ low high cost (Refused k)
   unfolding readReply
-  columns-untouched x = rw x (record { reply = refl; lows = refl; highs = refl; costs = refl })
+  columns-refused x l h c = rw x (record { reply = refl; lows = l; highs = h; costs = c })
 
-  module _ {n r : ℕ} {low high : List ℕ} {cost : List ℤ} where
-    pub columns-refused : {at i k : ℕ} → Reading text n r low₀ high₀ cost₀ low high cost at i
-        → readNetwork text ≡ refused k
-        → NetworkRead (readNetwork text) low₀ high₀ cost₀ low high cost (Refused k)
-    unfolding readReply
-    columns-refused w x =
-        rw x (record { reply = refl; lows = w .low-size; highs = w .high-size; costs = w .cost-size })
-
-    pub columns-read : AllRead text n r low₀ high₀ cost₀ low high cost
-        → NetworkRead (readNetwork text) low₀ high₀ cost₀ low high cost (Read n r)
-    unfolding readReply
-    columns-read w =
-        rw (w .is)
-        (record { reply = rw (w .vertices, w .reserved); lows = w .lows; highs = w .highs; costs = w .costs })
+  pub columns-read : {n r : ℕ} {m : Meaning} → a ≡ answer m → n ≡ m .vertices → r ≡ m .reserved
+      → low ≡ over (m .low) low₀ → high ≡ over (m .high) high₀ → cost ≡ over (m .cost) cost₀
+      → NetworkRead a low₀ high₀ cost₀ low high cost (Read n r)
+  unfolding readReply
+  columns-read x p q l h c = rw x (record { reply = rw (p, q); lows = l; highs = h; costs = c })

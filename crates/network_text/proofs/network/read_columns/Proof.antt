@@ -1,5 +1,5 @@
 -- `network_text::network::read_columns` meets its contract.
-use mathlib.Core.Path.{_≡_}
+use mathlib.Core.Path.{_≡_, refl}
 use Prim.Native.Nat.{ℕ, _*_, _-_}
 use native.Mathlib.Omega.{arith}
 use mir.Facts.{toZ-ofZ}
@@ -10,8 +10,7 @@ use Rattle.network_frames.specs.Frames.{found, readEdge}
 use Rattle.network_frames.proofs.Passed.{EdgePassed}
 use Rattle.network_text.proofs.Head.{head-refused}
 use Rattle.network_text.proofs.Reading.{Reading, edge-found, reading-none, reading-refused, reading-next}
-use Rattle.network_text.proofs.Reading.{reading-left, reading-end, columns-untouched, columns-refused}
-use Rattle.network_text.proofs.Reading.{columns-read}
+use Rattle.network_text.proofs.Reading.{reading-left, reading-end, columns-refused, columns-read}
 use Rattle.network_text.proofs.network.read_columns.Statement.{statement}
 use Rattle.network_text.proofs.network.read_columns.Tie as tie
 
@@ -47,8 +46,9 @@ refusal-requires c κs = search needs
 returns : tie.Need-returns Inv-loop μ-loop
 returns c =
     let e = c .before .before .before in
-    columns-untouched _
+    columns-refused
     (head-refused _ (head-number (e .read-head .ensures) (c .before .enum-told .given .1) (c .refusal .ensures)))
+    refl refl refl
 
 loop-holds : tie.Need-loop-holds Inv-loop μ-loop
 loop-holds c = reading-none (head-as (c .before .before .before .read-head .ensures) (c .before .start .given .1))
@@ -82,7 +82,8 @@ returns-2 c =
     let e = c .before .before .before in
     let l = e .before .before in
     let x = edge-number (e .read-edge .ensures) (c .before .enum-told2 .given .1) (c .refusal2 .ensures) in
-    columns-refused _ (l .loop .inv) (reading-refused (l .loop .inv) (e .before .loop-test .taken) x)
+    let w = l .loop .inv in
+    columns-refused (reading-refused w (e .before .loop-test .taken) x) (w .low-size) (w .high-size) (w .cost-size)
 
 -- the edge that was read, and that it has passed
 edge : (c : tie.After-known-told2 Inv-loop μ-loop) →
@@ -155,7 +156,8 @@ same-length-6 c = search needs
 returns-3 : tie.Need-returns-3 Inv-loop μ-loop
 returns-3 c =
     let w = c .before .before .loop .inv in
-    columns-refused _ w (reading-left w (c .before .loop-test .left) (c .if1 .taken))
+    columns-refused (reading-left w (c .before .loop-test .left) (c .if1 .taken)) (w .low-size) (w .high-size)
+    (w .cost-size)
 
 same-length-7 : tie.Need-same-length-7 Inv-loop μ-loop
 same-length-7 c = search needs
@@ -169,7 +171,8 @@ same-length-9 c = search needs
 returns-4 : tie.Need-returns-4 Inv-loop μ-loop
 returns-4 c =
     let w = c .before .before .loop .inv in
-    columns-read _ (reading-end w (c .before .loop-test .left) (c .if1 .left))
+    let v = reading-end w (c .before .loop-test .left) (c .if1 .left) in
+    columns-read (v .is) (v .vertices) (v .reserved) (v .lows) (v .highs) (v .costs)
 
 pub read-columns-spec : {M : Type 1} → statement M
 read-columns-spec =

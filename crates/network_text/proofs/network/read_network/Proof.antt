@@ -2,7 +2,9 @@
 use native.Mathlib.Omega.{arith}
 use borrow.Author.Needs.{needs}
 use borrow.Author.Tests.{ltb-true, ltb-false}
+use Rattle.network_text.specs.Text.{readNetwork}
 use Rattle.network_text.specs.Columns.{Columns}
+use Rattle.network_text.proofs.Meaning.{read-valid}
 use Rattle.network_text.proofs.Columns.{one-of}
 use Rattle.network_text.proofs.Given.{Stored, stored, given-none, no-room, given-all}
 use Rattle.network_text.proofs.network.read_network.Statement.{statement}
@@ -40,9 +42,9 @@ entry c = at-read c .before .before .before .before .before .before .before
 -- the working columns hold the network
 holds : (c : tie.After-known-told) →
     let columns = at-read c .read-columns .last in
-    Stored (entry c .args .text .now) (columns .1 .0) (columns .1 .1 .0) (columns .1 .1 .1 .0)
+    Stored (readNetwork (entry c .args .text .now)) (columns .1 .0) (columns .1 .1 .0) (columns .1 .1 .1 .0)
     (c .before .read .given .0 .0) (c .before .read .given .0 .1 .0)
-holds c = stored (c .before .read .given .1) (at-read c .read-columns .ensures)
+holds c = stored (read-valid _) (c .before .read .given .1) (at-read c .read-columns .ensures)
 
 mul-edges : tie.Need-mul-edges
 mul-edges c = omega (arith, holds c .few)
@@ -63,7 +65,7 @@ room c =
 
 returns-2 : tie.Need-returns-2
 returns-2 c =
-    no-room _ _ _ (holds (c .before))
+    no-room _ _ _ _ (holds (c .before))
     (one-of (λ w. w .taken) (λ w. ltb-true _ _ (w .1 .taken)) (λ w. ltb-true _ _ (w .2 .taken)) (c .if1 .came))
 
 -- where the buffers have room, seen from the copy of the lower ends, and that copy from the copy of the higher ends
@@ -79,7 +81,7 @@ slice-aggregate-copy c = search needs
 copy-requires : tie.Need-copy-requires
 copy-requires c κs =
     let e = c .before .before in
-    omega (arith, holds (e .before .before .before) .low .long, room e .low-room)
+    omega (arith, holds (e .before .before .before) .low .within, room e .low-room)
 
 slice-aggregate-copy-2 : tie.Need-slice-aggregate-copy-2
 slice-aggregate-copy-2 c = search needs
@@ -87,7 +89,7 @@ slice-aggregate-copy-2 c = search needs
 copy-requires-2 : tie.Need-copy-requires-2
 copy-requires-2 c κs =
     let e = roomy (c .before .before .before .before) in
-    omega (arith, holds (e .before .before .before) .high .long, room e .high-room)
+    omega (arith, holds (e .before .before .before) .high .within, room e .high-room)
 
 slice-aggregate-copy-costs : tie.Need-slice-aggregate-copy-costs
 slice-aggregate-copy-costs c = search needs
@@ -95,7 +97,7 @@ slice-aggregate-copy-costs c = search needs
 copy-costs-requires : tie.Need-copy-costs-requires
 copy-costs-requires c κs =
     let e = roomy (lows-copied (c .before .before .before .before)) in
-    omega (arith, holds (e .before .before .before) .cost .long, room e .cost-room)
+    omega (arith, holds (e .before .before .before) .cost .within, room e .cost-room)
 
 same-length : tie.Need-same-length
 same-length c = search needs
@@ -112,7 +114,7 @@ returns-3 c =
     let highs = costs .before .before .before .before .before in
     let lows = lows-copied highs in
     let e = roomy lows in
-    given-all _ _ _ (holds (e .before .before .before)) (room e) (lows .copy .ensures) (highs .copy2 .ensures)
+    given-all _ _ _ _ (holds (e .before .before .before)) (room e) (lows .copy .ensures) (highs .copy2 .ensures)
     (costs .copy-costs .ensures)
 
 pub read-network-spec : {M : Type 1} → statement M

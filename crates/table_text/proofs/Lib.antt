@@ -1,0 +1,4 @@
+pub mod Passed
+pub mod Laying
+pub mod Expanding
+pub mod Reading
