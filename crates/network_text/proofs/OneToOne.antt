@@ -9,7 +9,7 @@ use native.Mathlib.Omega.{arith}
 use lib.Dec.{ltb, lit<}
 use lib.ListN.{length, length-append, length-map}
 use lib.IntN.{ℤ}
-use borrow.Author.Tests.{lt-ltb}
+use borrow.Author.Tests.{le-leb, lt-ltb, eq-eqb}
 use Rattle.base.proofs.Bools.{no-answer}
 use Rattle.base.specs.Answer.{Answer, refused, answer, andThen, unless, refusalOf}
 use Rattle.frame.specs.Table.{HEAD, EDGE, lineLength, startOf, placeOf, total, bytesOf, padded, widths, digitsOf}
@@ -22,9 +22,9 @@ use Rattle.frame.proofs.Lines.{length-line, line-is, line-rest, line-back, line
 use Rattle.frame.proofs.Named.{edge-found, head-back}
 use Rattle.frame.proofs.Runs.{run-left}
 use Rattle.digits.proofs.Signs.{unsigned-lt}
-use Rattle.base.specs.Limits.{vertexLimit, edgeLimit, verticesOk}
+use Rattle.base.specs.Limits.{fewestVertices, vertexLimit, edgeLimit, verticesOk}
 use Rattle.base.specs.Refusals.{VERTICES, RESERVED}
-use Rattle.network_frames.specs.Frames.{headRefusal}
+use Rattle.network_frames.specs.Frames.{headRefusal, edgeRefusal}
 use Rattle.network_frames.proofs.Passed.{HeadPassed, EdgePassed, head-passed}
 use Rattle.network_text.specs.Text.{Meaning, meant, Edges, finished, interrupted, next, checked}
 use Rattle.network_text.specs.Text.{meaningOf, inFrames, edgesOf, readNetwork, inColumns, edgesIn, edgesText}
@@ -275,3 +275,37 @@ any-reserved t m r x h =
         let s = networkText (m .vertices) r es in
         let other = meant (m .vertices) r (m .low) (m .high) (m .cost) in
         (s, read-written other s (rw (head-free (m .vertices) (m .reserved) r p h, q)))
+
+-- ── edges that have passed are written ──
+head-unrefused : (n r : ℕ) → HeadPassed n r → headRefusal n r ≡ 0
+unfolding headRefusal verticesOk
+head-unrefused n r h =
+    rw (le-leb fewestVertices n (h .many), le-leb n vertexLimit (h .few), lt-ltb r (2 * n) (h .inside))
+
+edge-unrefused : (n place : ℕ) (e : Edge) → EdgePassed n place e → edgeRefusal n place e ≡ 0
+unfolding edgeRefusal
+edge-unrefused n place e p =
+    rw (
+      eq-eqb (e .number) place (p .numbered),
+      lt-ltb (e .lower) (e .higher) (p .rising),
+      lt-ltb (e .higher) n (p .inside),
+      p .limited,
+    )
+
+edges-checked : (n place : ℕ) (es : List Edge) → AllPassed n place es
+    → checked n place
+    (inColumns (length es) place (map (λ e. e .lower) es) (map (λ e. e .higher) es) (map (λ e. e .cost) es))
+    ≡ answer es
+unfolding checked inColumns andThen unless
+edges-checked n place [] p = refl
+edges-checked n place (e ∷ es) p =
+    let d : Edge = record { number = place; lower = e .lower; higher = e .higher; cost = e .cost } in
+    let same : d ≡ e = rw (← p .0 .numbered) in
+    let fine : edgeRefusal n place d ≡ 0 = edge-unrefused n place d (rw same (p .0)) in
+    rw (fine, edges-checked n (suc place) es (p .1), same)
+
+-- a head and as many edges as it asks for have a text
+pub passed-written : (n r : ℕ) (es : List Edge) → HeadPassed n r → AllPassed n 0 es → length es ≡ 2 * n
+    → writeNetwork (meaningOf n r es) ≡ answer (networkText n r es)
+unfolding writeNetwork meaningOf unless andThen
+passed-written n r es h p k = rw (head-unrefused n r h, ← k, edges-checked n 0 es p)

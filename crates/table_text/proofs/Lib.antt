@@ -2,3 +2,4 @@ pub mod Passed
 pub mod Laying
 pub mod Expanding
 pub mod Reading
+pub mod Meaning
