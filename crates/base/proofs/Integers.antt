@@ -151,6 +151,36 @@ unfolding fold P N
 sumℤ-is zero f = refl
 sumℤ-is (suc n) f = omega (arith, sumℤ-is n f, plus (sumℤ n f) (f n))
 
+-- the first term before the others
+pub sumℤ-front : (n : ℕ) (f : ℕ → ℤ) → sumℤ (suc n) f ≡ f 0 +ℤ sumℤ n (λ i. f (suc i))
+unfolding fold P N
+sumℤ-front zero f = eqℤ _ _ (omega (arith, plus (pos 0) (f 0), plus (f 0) (pos 0)))
+sumℤ-front (suc n) f =
+    let rest = sumℤ n (λ i. f (suc i)) in
+    ap (λ (a : ℤ). a +ℤ f (suc n)) (sumℤ-front n f)
+    ∙ eqℤ _ _
+    (omega (
+      arith,
+      plus (f 0 +ℤ rest) (f (suc n)),
+      plus (f 0) rest,
+      plus (f 0) (rest +ℤ f (suc n)),
+      plus rest (f (suc n)),
+    ))
+
+-- greater terms have a greater sum
+pub sumℤ-le : (n : ℕ) (f g : ℕ → ℤ) → ((i : ℕ) → i < n → f i ≤ℤ g i) → sumℤ n f ≤ℤ sumℤ n g
+unfolding fold
+sumℤ-le zero f g h = is-≤ℤ (omega arith)
+sumℤ-le (suc n) f g h =
+    is-≤ℤ
+    (omega (
+      arith,
+      plus (sumℤ n f) (f n),
+      plus (sumℤ n g) (g n),
+      ≤ℤ-is (sumℤ-le n f g (λ i l. h i (omega arith))),
+      ≤ℤ-is (h n (omega arith)),
+    ))
+
 -- f and g agree but at r, x, y, z: sum f and g's four terms are sum g and f's four terms
 pub sumℤ-change-four : {n r x y z : ℕ} → Four n r x y z → (f g : ℕ → ℤ)
     → ((i : ℕ) → i < n → i ≢ r → i ≢ x → i ≢ y → i ≢ z → f i ≡ g i)

@@ -12,3 +12,7 @@ longestChain = 3817
 -- a kept text (law `longest-kept`)
 abbrev pub longestKept : ℕ
 longestKept = 3619
+
+-- a table text (law `longest-table`)
+abbrev pub longestTable : ℕ
+longestTable = 10767
