@@ -71,6 +71,21 @@ pub const SUMS: Shape<2> = Shape {
     kind: 0x06,
     fields: [Field::Signed(8), Field::Signed(8)],
 };
+/// Count of vertices, reserved edge, count of spans.
+pub const TABLE_HEAD: Shape<3> = Shape {
+    kind: 0x08,
+    fields: [Field::Unsigned(2), Field::Unsigned(2), Field::Unsigned(2)],
+};
+/// Lower end, higher end, doubled weight, cost.
+pub const SPAN: Shape<4> = Shape {
+    kind: 0x09,
+    fields: [
+        Field::Unsigned(2),
+        Field::Unsigned(2),
+        Field::Unsigned(1),
+        Field::Signed(4),
+    ],
+};
 /// Refusal number.
 pub const REFUSED: Shape<1> = Shape {
     kind: 0x0f,
@@ -190,13 +205,15 @@ mod tests {
     }
 
     #[test]
-    fn lengths_of_the_seven_kinds() {
+    fn lengths_of_the_nine_kinds() {
         assert_eq!(HEAD.line_length(), 11);
         assert_eq!(EDGE.line_length(), 23);
         assert_eq!(STEP.line_length(), 15);
         assert_eq!(ENDING.line_length(), 7);
         assert_eq!(LISTED.line_length(), 7);
         assert_eq!(SUMS.line_length(), 35);
+        assert_eq!(TABLE_HEAD.line_length(), 15);
+        assert_eq!(SPAN.line_length(), 21);
         assert_eq!(REFUSED.line_length(), 5);
     }
 
