@@ -1,4 +1,5 @@
-/* Prints how many bytes of stack each service takes for the networks in the named files, and the most of each.
+/* Prints how many bytes of stack each service takes for the networks in the named files, and the most of each. The
+ * planner of tables is given a table of each network.
  *
  * A service is called on a thread of its own, whose stack is a buffer that was painted with one byte. The lowest byte
  * that has lost its paint afterwards is where the deepest call wrote, and what lies between it and the frame of the

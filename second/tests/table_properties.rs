@@ -10,7 +10,8 @@ use second::generate::{self, CostStyle, Damage, Family, Rng, TableAim};
 use second::properties::{judge_table_kept, within_four_thirds};
 use second::{
     check_network, check_table, check_table_by, lengths, plan, plan_table, plan_table_by,
-    read_kept, read_network, read_table, table_network, write_table, Method, Refusal, Table,
+    read_kept, read_network, read_table, table_network, write_table, Method, Network, Refusal,
+    Table,
 };
 
 /// All three services agree with those of the network that the table stands for.
@@ -27,6 +28,21 @@ fn assert_stands_for_its_network(text: &[u8]) {
     }
 }
 
+/// The network has as many edges of each span as its weight says, numbered on in span order.
+fn assert_edges_in_span_order(table: &Table, network: &Network) {
+    assert_eq!(network.vertices, table.vertices);
+    assert_eq!(network.reserved, table.reserved);
+    let mut edges = network.edges.iter();
+    for span in &table.spans {
+        for edge in edges.by_ref().take(span.weight.into()) {
+            assert_eq!((edge.low, edge.high), (span.low, span.high));
+            assert_eq!(edge.cost, span.cost);
+        }
+    }
+    assert_eq!(edges.next(), None);
+    assert_eq!(network.edges.len(), 2 * table.vertices);
+}
+
 /// Plans a table, and looks at everything that is promised about the plan.
 fn assert_plan_is_good(table: &Table) {
     let text = generate::table_text(table);
@@ -36,7 +52,7 @@ fn assert_plan_is_good(table: &Table) {
     assert_stands_for_its_network(&text);
     let network = table_network(&text).unwrap();
     assert_eq!(network.len(), lengths::network_text(table.vertices));
-    assert_eq!(read_network(&network), Ok(table.network()));
+    assert_edges_in_span_order(table, &read_network(&network).unwrap());
     let plan = plan_table(&text).unwrap();
     assert_eq!(judge_table_kept(&text, &plan.kept), Ok(()));
 }

@@ -171,6 +171,7 @@ fn totals_on_both_sides() {
     let heavier = triangle_with(&[(2, "09000000020300000001")]);
     assert_refused(&heavier, 16);
     assert_refused(b"08000300000000\n", 16);
+    assert_refused(b"08000300000000\n\n", 1);
     // The right total, with wrong degrees.
     let uneven = triangle_with(&[(1, "09000000010300000007"), (2, "09000000020100000001")]);
     assert_refused(&uneven, 6);
