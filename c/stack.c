@@ -1,4 +1,5 @@
-/* Prints how many bytes of stack each service takes for the networks in the named files, and the most of each.
+/* Prints how many bytes of stack each service takes for the networks in the named files, and the most of each. The
+ * planner of tables is given a table of each network.
  *
  * A service is called on a thread of its own, whose stack is a buffer that was painted with one byte. The lowest byte
  * that has lost its paint afterwards is where the deepest call wrote, and what lies between it and the frame of the
@@ -22,7 +23,8 @@
 #define GUARD ((size_t)4096)
 #define PAINT 0xa5
 
-/* What the services are given: a network text, the planner's chain and the list of all edges. */
+/* What the services are given: a network text, the planner's chain, the list of all edges, and a table of the network
+ * with room for the end of a string. */
 struct texts {
     uint8_t network[THINNING_NETWORK_TEXT];
     size_t network_length;
@@ -32,6 +34,22 @@ struct texts {
     size_t kept_length;
     uint8_t list[THINNING_LIST_TEXT];
     size_t list_length;
+    uint8_t table[THINNING_TABLE_TEXT + 1];
+    size_t table_length;
+};
+
+/* The meaning of the network text. */
+struct columns {
+    uint16_t low[THINNING_EDGES], high[THINNING_EDGES];
+    int64_t cost[THINNING_EDGES];
+    size_t vertices, reserved;
+};
+
+/* A span of the table. */
+struct span {
+    uint16_t low, high;
+    uint8_t weight;
+    int64_t cost;
 };
 
 static uint32_t check_network(struct texts *t)
@@ -58,11 +76,18 @@ static uint32_t audit(struct texts *t)
     return thinning_audit(t->network, t->network_length, t->list, t->list_length, &connected, &reached, &critical);
 }
 
-/* In this order: the chain that is checked is the planner's. */
+static uint32_t plan_table(struct texts *t)
+{
+    return thinning_plan_table(t->table, t->table_length, t->chain, sizeof t->chain, t->kept, sizeof t->kept,
+                               &t->chain_length, &t->kept_length);
+}
+
+/* In this order: the chain that is checked is the planner's, and the plan of the table takes its place. */
 static const struct {
     const char *name;
     uint32_t (*call)(struct texts *);
-} services[] = {{"check", check_network}, {"plan", plan}, {"chain check", check_chain}, {"audit", audit}};
+} services[] = {{"check", check_network}, {"plan", plan}, {"chain check", check_chain}, {"audit", audit},
+                {"table plan", plan_table}};
 #define SERVICES (sizeof services / sizeof *services)
 
 /* A service on its way through a thread: where the thread's own frame is, and what the service answers. */
@@ -99,7 +124,7 @@ static size_t measured(uint8_t *stack, size_t service, struct texts *texts)
         fail(services[service].name, "no thread with a painted stack");
     pthread_attr_destroy(&attributes);
     if (run.refusal != 0)
-        fail(services[service].name, "the network is refused");
+        fail(services[service].name, "what it is given is refused");
     const uint8_t *deepest = stack;
     while (deepest < run.frame && *deepest == PAINT)
         deepest++;
@@ -115,19 +140,58 @@ static void read_network(struct texts *texts, const char *path)
     fclose(file);
 }
 
-/* The list of every edge of the network. */
-static void list_all(struct texts *texts)
+static void read_columns(const struct texts *texts, struct columns *c)
 {
-    static uint16_t low[THINNING_EDGES], high[THINNING_EDGES], edges[THINNING_EDGES];
-    static int64_t cost[THINNING_EDGES];
-    size_t vertices, reserved;
-    uint32_t refusal = thinning_read_network(texts->network, texts->network_length, low, THINNING_EDGES, high,
-                                             THINNING_EDGES, cost, THINNING_EDGES, &vertices, &reserved);
+    uint32_t refusal = thinning_read_network(texts->network, texts->network_length, c->low, THINNING_EDGES, c->high,
+                                             THINNING_EDGES, c->cost, THINNING_EDGES, &c->vertices, &c->reserved);
     if (refusal != 0)
         fail("reading", "the network is refused");
-    for (size_t edge = 0; edge < 2 * vertices; edge++)
+}
+
+/* The list of every edge of the network. */
+static void list_all(struct texts *texts, const struct columns *columns)
+{
+    static uint16_t edges[THINNING_EDGES];
+    size_t count = 2 * columns->vertices;
+    for (size_t edge = 0; edge < count; edge++)
         edges[edge] = (uint16_t)edge;
-    thinning_write_list(vertices, edges, 2 * vertices, texts->list, sizeof texts->list, &texts->list_length);
+    thinning_write_list(columns->vertices, edges, count, texts->list, sizeof texts->list, &texts->list_length);
+}
+
+/* The order of spans: by the lower end, then by the higher one. */
+static int by_ends(const void *left, const void *right)
+{
+    const struct span *a = left, *b = right;
+    return a->low != b->low ? a->low - b->low : a->high - b->high;
+}
+
+/* A span for each pair of ends, of as many edges as join it, at the cost of one of them; gives how many they are. */
+static size_t spans_of(const struct columns *columns, struct span spans[THINNING_EDGES])
+{
+    size_t edges = 2 * columns->vertices, count = 0;
+    for (size_t edge = 0; edge < edges; edge++)
+        spans[edge] = (struct span){columns->low[edge], columns->high[edge], 1, columns->cost[edge]};
+    qsort(spans, edges, sizeof *spans, by_ends);
+    for (size_t edge = 0; edge < edges; edge++)
+        if (count > 0 && by_ends(&spans[count - 1], &spans[edge]) == 0)
+            spans[count - 1].weight++;
+        else
+            spans[count++] = spans[edge];
+    return count;
+}
+
+/* The table text of the network with parallel edges of one cost. */
+static void tabulate(struct texts *texts, const struct columns *columns)
+{
+    static struct span spans[THINNING_EDGES];
+    size_t count = spans_of(columns, spans);
+    char *table = (char *)texts->table;
+    size_t length = (size_t)snprintf(table, sizeof texts->table, "08%04zx%04zx%04zx\n", columns->vertices,
+                                     columns->reserved, count);
+    for (size_t span = 0; span < count; span++)
+        length += (size_t)snprintf(table + length, sizeof texts->table - length, "09%04x%04x%02x%08x\n",
+                                   spans[span].low, spans[span].high, spans[span].weight, (unsigned)spans[span].cost);
+    texts->table_length = length;
 }
 
 /* The stack, with a page below it that nobody may touch. */
@@ -154,9 +218,12 @@ static void print_line(const char *path, const size_t bytes[SERVICES])
 static void measure(uint8_t *stack, const char *path, size_t most[SERVICES])
 {
     static struct texts texts;
+    static struct columns columns;
     size_t bytes[SERVICES];
     read_network(&texts, path);
-    list_all(&texts);
+    read_columns(&texts, &columns);
+    list_all(&texts, &columns);
+    tabulate(&texts, &columns);
     for (size_t service = 0; service < SERVICES; service++) {
         bytes[service] = measured(stack, service, &texts);
         if (bytes[service] > most[service])

@@ -10,14 +10,15 @@
  * as are said, an out-number's to one; what a function writes overlaps nothing else that it is given; during the call
  * nobody else writes what it is given, or reads what it writes.
  *
- * thinning_plan and thinning_check_chain go as deep as there are vertices: at 256 vertices they take 1.57 MB and 1.45 MB
- * of stack, measured by the command ./stack.
+ * thinning_plan, thinning_plan_table and thinning_check_chain go as deep as there are vertices. The command ./stack
+ * measures what they take: at 256 vertices thinning_plan 1.57 MB of stack and thinning_check_chain 1.45 MB.
  *
  * The refusals:
  *    1  the form: a broken line, a wrong kind or length, a missing frame, bytes left over; columns of a wrong length
  *    2  the number of vertices is not 2 to 256
  *    3  the reserved edge is none of the network's
- *    4  an edge out of its place, or its ends are not two vertices of the network, the lower one first
+ *    4  an edge out of its place, or the ends of an edge or a span are not two vertices of the network, the lower one
+ *       first
  *    5  a cost below -1000000000 or above 1000000000
  *    6  a vertex without degree 4
  *    7  a cut that fewer than four edges cross
@@ -28,8 +29,14 @@
  *   12  the dropped edge is none of the last three, or cheaper than another of them
  *   13  a buffer is too short for what is due to it
  *   14  a listed edge is none of the network's, or not above the one before it
+ *   15  a span's doubled weight is not 1 to 4, or its pair of ends is not above the one before it, by the lower end and
+ *       then by the higher one
+ *   16  more spans than the network has edges, or doubled weights that do not total as many
  *
- * A network of n vertices has 2n edges, which are numbered from 0. */
+ * A network of n vertices has 2n edges, which are numbered from 0.
+ *
+ * A table stands for a network: each of its spans for as many edges as its doubled weight says, of its ends and its
+ * cost, numbered on in the order of the spans. The reserved edge in its head is one of these numbers. */
 #ifndef THINNING_H
 #define THINNING_H
 
@@ -51,6 +58,7 @@ extern "C" {
 #define THINNING_CHAIN_TEXT 3817
 #define THINNING_KEPT_TEXT 3612
 #define THINNING_LIST_TEXT 3584
+#define THINNING_TABLE_TEXT 10767
 
 /* Checks a network text. Refusals: 1 to 5, whichever comes first in the text, then 6, then 7. */
 uint32_t thinning_check_network(const uint8_t *network, size_t network_len);
@@ -77,6 +85,26 @@ uint32_t thinning_check_chain(const uint8_t *network, size_t network_len,
  * Refusals: 1 to 5 of the network, whichever comes first in the text, then 1 and 14 of the list. */
 uint32_t thinning_audit(const uint8_t *network, size_t network_len, const uint8_t *list, size_t list_len,
                         bool *connected, size_t *reached, size_t *critical);
+
+/* Checks a table text. Refusals: 1 to 5, 15 and 16 for the number of spans, whichever comes first in the text, then 16
+ * for the total of the weights, then 6 and 7 of the network that the table stands for. */
+uint32_t thinning_check_table(const uint8_t *table, size_t table_len);
+
+/* Plans a table text: writes the chain text and the kept text of the network that the table stands for, the same that
+ * thinning_plan writes, and their lengths in bytes.
+ * Refusals: 1 to 7, 15 and 16, as in the table's check, then 13 if either buffer is too short.
+ * Room for every plan: chain 3817 bytes, kept 3612 bytes. */
+uint32_t thinning_plan_table(const uint8_t *table, size_t table_len,
+                             uint8_t *chain, size_t chain_len,
+                             uint8_t *kept, size_t kept_len,
+                             size_t *chain_written, size_t *kept_written);
+
+/* Writes the network text that a table text stands for, and its length in bytes.
+ * Refusals: 1 to 5, 15 and 16, as in the table's check, then 13. Degrees and cuts are not looked at.
+ * Room for every table: network 11787 bytes. */
+uint32_t thinning_table_network(const uint8_t *table, size_t table_len,
+                                uint8_t *network, size_t network_len,
+                                size_t *written);
 
 /* Reads a network text: writes the lower end, the higher end and the cost of each edge, by its number, and the number
  * of vertices and the reserved edge. Each column gets twice as many elements as there are vertices.

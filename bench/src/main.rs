@@ -12,10 +12,13 @@ use std::time::{Duration, Instant};
 
 use second::audit::audit_list_by_definition;
 use second::generate::{self, CostStyle, Family, Rng};
-use second::lengths::LONGEST_NETWORK_TEXT;
+use second::lengths::{LONGEST_NETWORK_TEXT, LONGEST_TABLE_TEXT};
+use second::refusal::BROKEN_TEXT;
 use second::{
-    audit, check_chain_by, check_network_by, plan_by, read_list, read_network, write_list, Method,
+    audit, check_chain_by, check_network_by, plan_by, read_list, read_network, read_table,
+    write_list, Method,
 };
+use thinning::Refusal;
 
 const SIZES: [usize; 4] = [32, 64, 128, 256];
 const FAMILIES: [Family; 2] = [Family::TwoCycles, Family::PinchedNear];
@@ -41,7 +44,8 @@ fn main() {
             on_small_stack(|| services(family, vertices, &text));
         }
     }
-    reading();
+    reading_a_network();
+    reading_a_table();
 }
 
 /// The network text that all services are given.
@@ -111,20 +115,45 @@ fn services(family: Family, vertices: usize, text: &[u8]) {
     );
 }
 
-/// Prints how long both readers take for the longest network text.
-fn reading() {
+/// The longest network text.
+fn reading_a_network() {
     let text = text(Family::TwoCycles, 256);
     assert_eq!(text.len(), LONGEST_NETWORK_TEXT);
-    let [core, second] = shortest(
-        READING_RUNS,
+    reading(
+        "a network",
+        text.len(),
         [
             work(|| thinning::read_network(&text)),
-            work(|| second::read_network(&text)),
+            work(|| read_network(&text)),
         ],
     );
-    println!(
-        "reading {} bytes: core {:.4} ms, second {:.4} ms, ratio {:.2}",
+}
+
+/// The longest table text, 512 spans of weight 1, and a byte behind it: the check reads them all, refuses that byte and
+/// looks at nothing else.
+fn reading_a_table() {
+    let mut rng = Rng::new(SEED);
+    let table = generate::table_of(&mut rng, Family::Torus, 256, CostStyle::Anything);
+    let mut text = generate::table_text(&table);
+    assert_eq!(text.len(), LONGEST_TABLE_TEXT);
+    text.push(b'0');
+    assert_eq!(thinning::check_table(&text), Err(Refusal::Form));
+    assert_eq!(read_table(&text), Err(BROKEN_TEXT));
+    reading(
+        "a table",
         text.len(),
+        [
+            work(|| thinning::check_table(&text)),
+            work(|| read_table(&text)),
+        ],
+    );
+}
+
+/// Prints how long both programs take to read so many bytes.
+fn reading(text: &str, bytes: usize, works: [Work; 2]) {
+    let [core, second] = shortest(READING_RUNS, works);
+    println!(
+        "reading {text}, {bytes} bytes: core {:.4} ms, second {:.4} ms, ratio {:.2}",
         milliseconds(core),
         milliseconds(second),
         ratio(core, second),

@@ -1,17 +1,18 @@
 //! The largest networks: 256 vertices, of every family, with a stack of 2 MB.
 //!
-//! All four services run on a thread with that stack and the plan program runs as a process
-//! with it, each held to the second program. A call that goes deeper ends the program.
+//! All four services, and those on a table of each family, run on a thread with that stack, and
+//! the plan program runs as a process with it, each held to the second program. A call that goes
+//! deeper ends the program.
 
 use std::fmt::Debug;
 use std::thread;
 
 use second::generate::{self, aimed_chain, Aim, CostStyle, Family, ListStyle, Rng};
 use second::lengths::LONGEST_NETWORK_TEXT;
-use second::{read_kept, write_chain, Network, Plan};
+use second::{read_kept, write_chain, Network, Plan, Table};
 
 use crate::difference::{Compared, Difference, Given, Text, Words};
-use crate::{chains, lists, networks, program};
+use crate::{chains, lists, networks, program, tables};
 
 const VERTICES: usize = 256;
 const SEED: u64 = 1;
@@ -21,7 +22,8 @@ const THREAD_STACK: usize = 2_000_000;
 const PROGRAM_STACK: usize = THREAD_STACK / 1_024;
 
 /// Which text gets a buffer that is a byte short. Each family has a network for either, and
-/// these have a wrong chain of another kind, so that the whole takes little time.
+/// these have a wrong chain of another kind, so that the whole takes little time. The first one
+/// has a table beside it.
 #[derive(Clone, Copy, PartialEq, Eq)]
 enum Short {
     Chain,
@@ -52,7 +54,10 @@ pub fn run() -> u64 {
         println!("{family:?}: {}: {met} differences", names.join(", "));
         differences += met;
     }
-    println!("{networks} networks of {VERTICES} vertices, {differences} differences");
+    let tables = Family::ALL.len();
+    println!(
+        "{networks} networks and {tables} tables of {VERTICES} vertices, {differences} differences"
+    );
     differences
 }
 
@@ -73,23 +78,32 @@ fn family_networks(family: Family, counted: &mut usize) -> Vec<(String, Compared
     })
 }
 
-/// Compares everything about one network, and says which it was. Styles of costs take turns,
-/// and so do the lowest reserved edge, the highest and any one.
+/// Compares everything about one network, and says which it was. Styles of costs take turns.
 fn compare_network(family: Family, short: Short, place: usize) -> (String, Compared) {
     let mut rng = Rng::new(SEED + place as u64);
     let style = CostStyle::ALL[place % CostStyle::ALL.len()];
     let mut network = generate::network_of(&mut rng, family, VERTICES, style);
-    match place % 3 {
-        0 => network.reserved = 0,
-        1 => network.reserved = network.edges.len() - 1,
-        _ => (),
-    }
+    network.reserved = reserved(place, network.reserved);
     let name = format!("{style:?}-{}", network.reserved);
     let compared = case(network, short).and_then(|case| {
         services(&mut rng, &case, place)?;
+        if short == Short::Chain {
+            let mut table = generate::table_of(&mut rng, family, VERTICES, style);
+            table.reserved = reserved(place, table.reserved);
+            table_services(&mut rng, &table)?;
+        }
         program::plan_on_stack(&case.text, PROGRAM_STACK)
     });
     (name, compared)
+}
+
+/// The lowest reserved edge, the highest and any one take turns.
+fn reserved(place: usize, any: usize) -> usize {
+    match place % 3 {
+        0 => 0,
+        1 => 2 * VERTICES - 1,
+        _ => any,
+    }
 }
 
 /// The network, if it has 256 vertices and is accepted by the second program.
@@ -108,15 +122,14 @@ fn case(network: Network, short: Short) -> Result<Case, Difference> {
         _ => Err(not_meant(
             "plan",
             "an accepted network of 256 vertices",
-            &text,
+            &[("network", &Text(&text))],
             &plan,
         )),
     }
 }
 
 /// The second program finds something else than the case was made for.
-fn not_meant(service: &'static str, meant: &str, text: &[u8], answer: &dyn Debug) -> Difference {
-    let given: &Given = &[("network", &Text(text))];
+fn not_meant(service: &'static str, meant: &str, given: &Given, answer: &dyn Debug) -> Difference {
     let fault = "the case is not what it is meant to be";
     Difference::new(service, fault, given, &Words(meant), answer)
 }
@@ -138,9 +151,9 @@ fn plans(rng: &mut Rng, case: &Case) -> Compared {
         Short::Kept => [chain, kept - 1],
     };
     for lengths in [[chain, kept], short] {
-        networks::plan_into(rng, &case.text, Some(&case.plan), None, lengths)?;
+        networks::plan_into(rng, &case.text, Ok(&case.plan), lengths)?;
     }
-    Ok(())
+    networks::judge("plan", &case.text, &case.plan.kept)
 }
 
 /// The check of the planner's chain gives the planner's kept text, or 13 a byte short of it.
@@ -164,7 +177,7 @@ fn wrong_chain(rng: &mut Rng, case: &Case, place: usize) -> Compared {
         Ok(kept) => Err(not_meant(
             "chain check",
             "a refusal",
-            &case.text,
+            &[("network", &Text(&case.text))],
             &Text(kept),
         )),
     }
@@ -221,5 +234,20 @@ fn audit(rng: &mut Rng, case: &Case, list: &[u16], joins: bool) -> Compared {
         return lists::audit(rng, &case.text, &list);
     }
     let meant = format!("connected: {joins}");
-    Err(not_meant("audit", &meant, &case.text, &audit))
+    let given: &Given = &[("network", &Text(&case.text))];
+    Err(not_meant("audit", &meant, given, &audit))
+}
+
+/// Check, plan and network of a table, which is accepted.
+fn table_services(rng: &mut Rng, table: &Table) -> Compared {
+    let text = generate::table_text(table);
+    let plan = second::plan_table(&text).map_err(|refusal| {
+        let given: &Given = &[("table", &Text(&text))];
+        not_meant("table plan", "an accepted table", given, &refusal)
+    })?;
+    tables::check(&text)?;
+    let exact = [plan.chain.len(), plan.kept.len()];
+    tables::plan_into(rng, &text, Ok(&plan), exact)?;
+    tables::judge(&text, &plan.kept)?;
+    tables::network(rng, &text)
 }

@@ -61,56 +61,68 @@ pub fn check(text: &[u8]) -> Compared {
 }
 
 fn plan(rng: &mut Rng, text: &[u8]) -> Compared {
-    let (plan, refusal) = match second::plan(text) {
-        Ok(plan) => (Some(plan), None),
-        Err(refusal) => (None, Some(refusal)),
-    };
-    let due = [
-        due_length(rng, plan.as_ref().map(|plan| &plan.chain[..])),
-        due_length(rng, plan.as_ref().map(|plan| &plan.kept[..])),
-    ];
+    let plan = second::plan(text);
+    let due = plan.as_ref().map_err(|&refusal| refusal);
     let seldom = text.len() > second::lengths::network_text(MANY_VERTICES);
-    for lengths in lengths(rng, due, seldom) {
-        plan_into(rng, text, plan.as_ref(), refusal, lengths)?;
+    for lengths in plan_lengths(rng, due, seldom) {
+        plan_into(rng, text, due, lengths)?;
     }
-    Ok(())
+    due.map_or(Ok(()), |plan| judge("plan", text, &plan.kept))
 }
 
 /// The planner with buffers of these lengths, where this plan or this refusal is due.
 pub fn plan_into(
     rng: &mut Rng,
     text: &[u8],
-    plan: Option<&Plan>,
-    refusal: Option<Refusal>,
+    due: Result<&Plan, Refusal>,
     lengths: [usize; 2],
+) -> Compared {
+    let given: &Given = &[("network", &Text(text))];
+    planner("plan", rng, given, due, lengths, |chain, kept, written| {
+        let [chain_written, kept_written] = written;
+        raw::plan(text, chain, kept, chain_written, kept_written)
+    })
+}
+
+/// Lengths to lend the buffers of any planner with, as [`lengths`] has them.
+pub fn plan_lengths(rng: &mut Rng, due: Result<&Plan, Refusal>, seldom: bool) -> Vec<[usize; 2]> {
+    let due = [
+        due_length(rng, due.ok().map(|plan| &plan.chain[..])),
+        due_length(rng, due.ok().map(|plan| &plan.kept[..])),
+    ];
+    lengths(rng, due, seldom)
+}
+
+/// Any planner with buffers of these lengths.
+pub fn planner(
+    service: &'static str,
+    rng: &mut Rng,
+    given: &Given,
+    due: Result<&Plan, Refusal>,
+    lengths: [usize; 2],
+    plan: impl Fn(&mut [u8], &mut [u8], [&mut usize; 2]) -> u32,
 ) -> Compared {
     let mut chain = Lent::new(rng, lengths[0]);
     let mut kept = Lent::new(rng, lengths[1]);
     let (mut chain_written, mut kept_written) = (Number::new(rng), Number::new(rng));
-    let answer = raw::plan(
-        text,
+    let answer = plan(
         chain.buffer(),
         kept.buffer(),
-        chain_written.place(),
-        kept_written.place(),
+        [chain_written.place(), kept_written.place()],
     );
-    let (chain_due, kept_due) = plan.map_or((&[][..], &[][..]), |plan| (&plan.chain, &plan.kept));
+    let (chain_due, kept_due) = due.map_or((&[][..], &[][..]), |plan| (&plan.chain, &plan.kept));
     compare(
-        "plan",
+        service,
         answer,
-        refusal,
-        &[("network", &Text(text))],
+        due.err(),
+        given,
         &[
             &("chain", &chain, chain_due),
             &("kept", &kept, kept_due),
             &("chain_written", &chain_written, chain_due.len()),
             &("kept_written", &kept_written, kept_due.len()),
         ],
-    )?;
-    if answer != 0 {
-        return Ok(());
-    }
-    judge("plan", text, &kept.buffer()[..kept_due.len()])
+    )
 }
 
 /// What is promised of every kept text, judged without its chain.

@@ -6,12 +6,13 @@ use std::panic::{self, AssertUnwindSafe};
 use second::generate::Rng;
 
 use crate::difference::{Compared, Difference, Words};
-use crate::{chains, lists, networks, program, vectors};
+use crate::{chains, lists, networks, program, tables, vectors};
 
 /// A part of a round and its name.
 type Part = (&'static str, fn(&mut Rng) -> Compared);
 
-const PARTS: [Part; 11] = [
+/// New parts stand last, so that those before them keep their numbers.
+const PARTS: [Part; 13] = [
     ("program", program::plan),
     ("network-texts", networks::texts),
     ("network-columns", networks::columns),
@@ -23,6 +24,8 @@ const PARTS: [Part; 11] = [
     ("network-vectors", vectors::networks),
     ("chain-vectors", vectors::chains),
     ("list-vectors", vectors::lists),
+    ("table-texts", tables::texts),
+    ("table-vectors", vectors::tables),
 ];
 
 /// Runs all rounds, and says how many differences were met.
@@ -42,16 +45,21 @@ pub fn run(rounds: u64, seed: u64) -> u64 {
     differences
 }
 
-/// One round: every part starts from numbers of its own.
+/// One round.
 fn round(seed: u64) -> Vec<String> {
-    let mut seeds = Rng::new(seed);
     let mut reports = Vec::new();
-    for part in PARTS {
-        if let Err(difference) = answer(part, &mut Rng::new(seeds.bits())) {
+    for (part, mut rng) in parts(seed) {
+        if let Err(difference) = answer(part, &mut rng) {
             reports.push(difference.report(&format!("seed-{seed}-{}", part.0)));
         }
     }
     reports
+}
+
+/// The parts of a round: every one starts from numbers of its own.
+fn parts(seed: u64) -> impl Iterator<Item = (Part, Rng)> {
+    let mut seeds = Rng::new(seed);
+    PARTS.map(|part| (part, Rng::new(seeds.bits()))).into_iter()
 }
 
 /// What a part gives; a panic is a difference too.
@@ -94,5 +102,27 @@ impl Progress {
         if self.on_terminal {
             eprint!("\r\x1b[K");
         }
+    }
+}
+
+#[cfg(test)]
+mod tests {
+    use std::collections::BTreeSet;
+
+    use super::*;
+
+    /// What the check of a table may answer; 13 comes with the short buffers of the accepted ones.
+    const ANSWERS: [u8; 10] = [0, 1, 2, 3, 4, 5, 6, 7, 15, 16];
+
+    #[test]
+    fn few_rounds_have_tables_of_every_answer() {
+        let mut met = BTreeSet::new();
+        for (part, mut rng) in (1..=200).flat_map(parts) {
+            if part.0 == "table-texts" {
+                let texts = tables::every_sort(&mut rng).expect("the second program is right");
+                met.extend(texts.map(|text| second::check_table(&text).err().unwrap_or(0)));
+            }
+        }
+        assert_eq!(met, BTreeSet::from(ANSWERS));
     }
 }

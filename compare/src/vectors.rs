@@ -7,6 +7,7 @@ use second::{columns, Refusal};
 
 use crate::difference::{Compared, Difference, Given, Text};
 use crate::networks::{any_text, MANY_VERTICES};
+use crate::tables::every_sort;
 
 /// The same answer from both, or refusals with the same number.
 fn same<T: PartialEq + Debug>(
@@ -122,4 +123,20 @@ pub fn lists(rng: &mut Rng) -> Compared {
     let due = second::write_list(vertices, &edges).map(Text);
     let written = thinning::write_list(vertices, &edges).map(Text);
     same("list writer", shown, written, due)
+}
+
+/// Check, plan and network of tables.
+pub fn tables(rng: &mut Rng) -> Compared {
+    for text in every_sort(rng)? {
+        let shown: &Given = &[("table", &Text(&text))];
+        let due = second::check_table(&text);
+        same("table check", shown, thinning::check_table(&text), due)?;
+        let plan = thinning::plan_table(&text).map(|plan| [plan.chain, plan.kept].map(Text));
+        let due = second::plan_table(&text).map(|plan| [plan.chain, plan.kept].map(Text));
+        same("table plan", shown, plan, due)?;
+        let network = thinning::table_network(&text).map(Text);
+        let due = second::table_network(&text).map(Text);
+        same("table network", shown, network, due)?;
+    }
+    Ok(())
 }

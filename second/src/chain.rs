@@ -27,8 +27,12 @@ struct Trace {
 
 /// Plans the network of a text.
 pub fn plan_by(text: &[u8], method: Method) -> Result<Plan, Refusal> {
-    let network = read_accepted(text, method)?;
-    let (chain, kept) = plan_network(&network, method);
+    plan_texts(&read_accepted(text, method)?, method)
+}
+
+/// Plans an accepted network, and writes the texts.
+pub(crate) fn plan_texts(network: &Network, method: Method) -> Result<Plan, Refusal> {
+    let (chain, kept) = plan_network(network, method);
     Ok(Plan {
         chain: write_chain(network.vertices, &chain)?,
         kept: write_kept(&kept),

@@ -1,4 +1,4 @@
-//! Pseudo-random networks, texts, chains and lists to compare answers on.
+//! Pseudo-random networks, texts, chains, lists and tables to compare answers on.
 //!
 //! Everything follows from the seed of a [`Rng`].
 
@@ -9,6 +9,7 @@ mod lists;
 mod meanings;
 mod networks;
 mod rng;
+mod tables;
 
 pub use chains::{aimed_chain, chain_by_rule, changed_chain, Aim, Aimed};
 pub use costs::CostStyle;
@@ -19,3 +20,4 @@ pub use networks::{
     aimed_network, dress, network, network_of, size, text, Family, NetworkAim, Shapeless,
 };
 pub use rng::Rng;
+pub use tables::{aimed_table, loose_table, table, table_of, table_text, TableAim};

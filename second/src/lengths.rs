@@ -1,6 +1,6 @@
 //! How long texts and columns are, and when a buffer is too short for them.
 
-use crate::lines::{EDGE, ENDING, HEAD, LISTED, REFUSED, STEP, SUMS};
+use crate::lines::{EDGE, ENDING, HEAD, LISTED, REFUSED, SPAN, STEP, SUMS, TABLE_HEAD};
 use crate::refusal::{Refusal, SHORT_BUFFER};
 use crate::texts::MOST_VERTICES;
 
@@ -24,6 +24,11 @@ pub const fn kept_text(edges: usize) -> usize {
     edges * LISTED.line_length() + SUMS.line_length()
 }
 
+/// Bytes of a table text of so many spans.
+pub const fn table_text(spans: usize) -> usize {
+    TABLE_HEAD.line_length() + spans * SPAN.line_length()
+}
+
 /// Bytes of a 0f line.
 pub const fn refusal_line() -> usize {
     REFUSED.line_length()
@@ -45,6 +50,8 @@ pub const LONGEST_NETWORK_TEXT: usize = network_text(MOST_VERTICES);
 pub const LONGEST_CHAIN_TEXT: usize = chain_text(MOST_VERTICES);
 /// Bytes of the longest audit list.
 pub const LONGEST_LIST_TEXT: usize = list_text(edge_column(MOST_VERTICES));
+/// Bytes of the longest table text, whose spans stand for one edge each.
+pub const LONGEST_TABLE_TEXT: usize = table_text(edge_column(MOST_VERTICES));
 
 /// Whether a buffer of `lent` entries takes the `due` ones.
 pub fn fits(due: usize, lent: usize) -> Result<(), Refusal> {
@@ -64,6 +71,7 @@ mod tests {
         assert_eq!(LONGEST_NETWORK_TEXT, 11_787);
         assert_eq!(LONGEST_CHAIN_TEXT, 3_817);
         assert_eq!(LONGEST_LIST_TEXT, 3_584);
+        assert_eq!(LONGEST_TABLE_TEXT, 10_767);
         assert_eq!(kept_text(0), 35);
         assert_eq!(refusal_line(), 5);
     }

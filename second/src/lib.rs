@@ -27,6 +27,7 @@ pub mod lines;
 pub mod network;
 pub mod properties;
 pub mod refusal;
+pub mod tables;
 pub mod texts;
 pub mod working;
 
@@ -34,6 +35,9 @@ pub use audit::{audit, Audit};
 pub use chain::{check_chain_by, plan_by, Plan};
 pub use network::Method;
 pub use refusal::Refusal;
+pub use tables::{
+    check_table_by, plan_table_by, read_table, table_network, write_table, Span, Table,
+};
 pub use texts::{
     read_chain, read_kept, read_list, read_network, write_chain, write_kept, write_list,
     write_network, write_refusal, Chain, Edge, Kept, Network, Step,
@@ -57,6 +61,16 @@ pub fn plan(text: &[u8]) -> Result<Plan, Refusal> {
 /// Checks any bytes as a chain over a network text: the kept text, or refusals 1 to 12.
 pub fn check_chain(network: &[u8], chain: &[u8]) -> Result<Vec<u8>, Refusal> {
     check_chain_by(network, chain, Method::Mixed)
+}
+
+/// Checks a table text: refusals 1 to 5, 15 and 16, then 6 and 7 of its network.
+pub fn check_table(text: &[u8]) -> Result<(), Refusal> {
+    check_table_by(text, Method::Mixed)
+}
+
+/// Plans a table text as the network it stands for, or refuses it as its check does.
+pub fn plan_table(text: &[u8]) -> Result<Plan, Refusal> {
+    plan_table_by(text, Method::Mixed)
 }
 
 /// What the plan program writes for a network text: chain and kept text, or a 0f line.

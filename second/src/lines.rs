@@ -18,12 +18,16 @@ impl Field {
         }
     }
 
-    fn decode(self, bytes: &[u8]) -> i64 {
-        let negative = matches!(self, Field::Signed(_)) && bytes[0] >= 0x80;
-        let start = if negative { -1 } else { 0 };
-        bytes
-            .iter()
-            .fold(start, |value, &byte| (value << 8) | i64::from(byte))
+    /// The number that the field's digits stand for.
+    fn decode(self, digits: &[u8]) -> Result<i64, Refusal> {
+        let value = number(digits)?;
+        Ok(match self {
+            Field::Unsigned(_) => value,
+            Field::Signed(width) => {
+                let unused = 64 - 8 * width;
+                (value << unused) >> unused
+            }
+        })
     }
 }
 
@@ -71,6 +75,21 @@ pub const SUMS: Shape<2> = Shape {
     kind: 0x06,
     fields: [Field::Signed(8), Field::Signed(8)],
 };
+/// Count of vertices, reserved edge, count of spans.
+pub const TABLE_HEAD: Shape<3> = Shape {
+    kind: 0x08,
+    fields: [Field::Unsigned(2), Field::Unsigned(2), Field::Unsigned(2)],
+};
+/// Lower end, higher end, doubled weight, cost.
+pub const SPAN: Shape<4> = Shape {
+    kind: 0x09,
+    fields: [
+        Field::Unsigned(2),
+        Field::Unsigned(2),
+        Field::Unsigned(1),
+        Field::Signed(4),
+    ],
+};
 /// Refusal number.
 pub const REFUSED: Shape<1> = Shape {
     kind: 0x0f,
@@ -96,16 +115,17 @@ impl<const FIELDS: usize> Shape<FIELDS> {
 
     /// Takes the next line and gives the fields of the frame in it.
     pub fn read(&self, lines: &mut Lines) -> Result<[i64; FIELDS], Refusal> {
-        let frame = lines.next_line()?;
-        if frame.first() != Some(&self.kind) || frame.len() != self.frame_length() {
+        let (kind, mut rest) = lines.next_line(self.line_length())?.split_at(2);
+        if number(kind)? != i64::from(self.kind) {
             return Err(BROKEN_TEXT);
         }
-        let mut rest = &frame[1..];
-        Ok(self.fields.map(|field| {
-            let (bytes, behind) = rest.split_at(field.width());
+        let mut values = [0; FIELDS];
+        for (value, field) in values.iter_mut().zip(self.fields) {
+            let (digits, behind) = rest.split_at(2 * field.width());
+            *value = field.decode(digits)?;
             rest = behind;
-            field.decode(bytes)
-        }))
+        }
+        Ok(values)
     }
 
     /// Appends the line for the given fields; of each value the low bytes are written.
@@ -147,32 +167,25 @@ impl<'text> Lines<'text> {
         }
     }
 
-    /// Takes one line and gives the bytes that its digits stand for.
-    fn next_line(&mut self) -> Result<Vec<u8>, Refusal> {
-        let feed = self
-            .rest
-            .iter()
-            .position(|&byte| byte == b'\n')
-            .ok_or(BROKEN_TEXT)?;
-        let digits = &self.rest[..feed];
-        self.rest = &self.rest[feed + 1..];
-        let pairs = digits.chunks_exact(2);
-        if !pairs.remainder().is_empty() {
-            return Err(BROKEN_TEXT);
-        }
-        pairs
-            .map(|pair| Some(16 * digit(pair[0])? + digit(pair[1])?))
-            .collect::<Option<Vec<u8>>>()
-            .ok_or(BROKEN_TEXT)
+    /// Takes so many characters, which end with a line feed, and gives those before it. An
+    /// earlier line feed among them is no digit.
+    fn next_line(&mut self, length: usize) -> Result<&'text [u8], Refusal> {
+        let (line, rest) = self.rest.split_at_checked(length).ok_or(BROKEN_TEXT)?;
+        self.rest = rest;
+        line.strip_suffix(b"\n").ok_or(BROKEN_TEXT)
     }
 }
 
-fn digit(character: u8) -> Option<u8> {
-    match character {
-        b'0'..=b'9' => Some(character - b'0'),
-        b'a'..=b'f' => Some(character - b'a' + 10),
-        _ => None,
-    }
+/// The number of at most 16 digits.
+fn number(digits: &[u8]) -> Result<i64, Refusal> {
+    digits.iter().try_fold(0, |value, &character| {
+        let digit = match character {
+            b'0'..=b'9' => character - b'0',
+            b'a'..=b'f' => character - b'a' + 10,
+            _ => return Err(BROKEN_TEXT),
+        };
+        Ok((value << 4) | i64::from(digit))
+    })
 }
 
 fn push_byte(byte: u8, text: &mut Vec<u8>) {
@@ -190,13 +203,15 @@ mod tests {
     }
 
     #[test]
-    fn lengths_of_the_seven_kinds() {
+    fn lengths_of_the_nine_kinds() {
         assert_eq!(HEAD.line_length(), 11);
         assert_eq!(EDGE.line_length(), 23);
         assert_eq!(STEP.line_length(), 15);
         assert_eq!(ENDING.line_length(), 7);
         assert_eq!(LISTED.line_length(), 7);
         assert_eq!(SUMS.line_length(), 35);
+        assert_eq!(TABLE_HEAD.line_length(), 15);
+        assert_eq!(SPAN.line_length(), 21);
         assert_eq!(REFUSED.line_length(), 5);
     }
 

@@ -2,6 +2,7 @@
 
 use crate::cuts::Multigraph;
 use crate::network::Method;
+use crate::tables::{read_table, table_network, Table};
 use crate::texts::{read_kept, read_network, Network};
 
 /// Says what is wrong with a kept text over an accepted network, if anything is.
@@ -38,6 +39,32 @@ pub fn judge_kept(network_text: &[u8], kept_text: &[u8]) -> Result<(), String> {
         return Err("a cut is crossed by fewer than two kept edges".to_owned());
     }
     Ok(())
+}
+
+/// Says what is wrong with a kept text over an accepted table, if anything is.
+///
+/// Looked at: what [`judge_kept`] looks at, for the network that the table stands for, and
+/// the bound of four thirds.
+pub fn judge_table_kept(table_text: &[u8], kept_text: &[u8]) -> Result<(), String> {
+    let refused = |refusal| format!("table refused by {refusal}");
+    let table = read_table(table_text).map_err(refused)?;
+    let network_text = table_network(table_text).map_err(refused)?;
+    judge_kept(&network_text, kept_text)?;
+    let kept = read_kept(kept_text).map_err(|_| "broken kept text".to_owned())?;
+    if within_four_thirds(&table, kept.cost) {
+        Ok(())
+    } else {
+        Err(format!("{} is above the bound of four thirds", kept.cost))
+    }
+}
+
+/// Whether a kept cost is at most four thirds of the solver's cost, which is half the sum of
+/// cost times doubled weight over all spans. Nothing is promised if a cost is below zero.
+pub fn within_four_thirds(table: &Table, kept_cost: i64) -> bool {
+    let costs = table.spans.iter().map(|span| span.cost);
+    let weights = table.spans.iter().map(|span| i64::from(span.weight));
+    let doubled: i64 = costs.zip(weights).map(|(cost, weight)| cost * weight).sum();
+    table.spans.iter().any(|span| span.cost < 0) || 3 * kept_cost <= 2 * doubled
 }
 
 /// Whether at least two of the given edges cross every cut: each cut is counted in small
@@ -85,5 +112,32 @@ mod tests {
         assert!(judge(&[1], -1, 5).is_err());
         assert!(judge_kept(TWO, b"").is_err());
         assert!(judge_kept(b"", b"").is_err());
+    }
+    /// Two vertices and one span of weight 4, whose edges cost 3 each.
+    const SPAN: &[u8] = b"08000200000001\n09000000010400000003\n";
+
+    #[test]
+    fn a_table_is_judged_by_its_network() {
+        let kept = |edges: &[u16], cost| {
+            let edges = edges.to_vec();
+            let total = 9;
+            judge_table_kept(SPAN, &write_kept(&Kept { edges, cost, total }))
+        };
+        assert_eq!(kept(&[1, 2], 6), Ok(()));
+        assert!(kept(&[1, 2], 5).is_err());
+        assert!(kept(&[1, 2, 3], 9).is_err());
+        assert!(judge_table_kept(b"", b"").is_err());
+    }
+
+    #[test]
+    fn four_thirds_on_both_sides() {
+        let mut table = read_table(SPAN).unwrap();
+        assert!(within_four_thirds(&table, 8));
+        assert!(!within_four_thirds(&table, 9));
+        table.spans[0].cost = 0;
+        assert!(within_four_thirds(&table, 0));
+        assert!(!within_four_thirds(&table, 1));
+        table.spans[0].cost = -1;
+        assert!(within_four_thirds(&table, 1));
     }
 }

@@ -9,7 +9,7 @@ pub const BROKEN_TEXT: Refusal = 1;
 pub const BAD_VERTEX_COUNT: Refusal = 2;
 /// A reserved edge that isn't below twice the count of vertices.
 pub const BAD_RESERVED: Refusal = 3;
-/// An edge number other than its place, an end too high, or ends out of order.
+/// An edge number other than its place; an end too high, or ends out of order, of a span too.
 pub const BAD_EDGE: Refusal = 4;
 /// A cost outside its limits.
 pub const BAD_COST: Refusal = 5;
@@ -31,3 +31,7 @@ pub const BAD_DROP: Refusal = 12;
 pub const SHORT_BUFFER: Refusal = 13;
 /// A listed edge that is too high or not above the one before.
 pub const BAD_LIST: Refusal = 14;
+/// A span's weight outside 1 to 4, or its pair of ends not above the one before.
+pub const BAD_SPAN: Refusal = 15;
+/// More spans than the network has edges, or weights that don't total these.
+pub const BAD_TOTAL: Refusal = 16;

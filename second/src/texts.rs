@@ -252,7 +252,7 @@ fn check_vertex_count(vertices: usize) -> Result<(), Refusal> {
     }
 }
 
-fn check_head(vertices: usize, reserved: usize) -> Result<(), Refusal> {
+pub(crate) fn check_head(vertices: usize, reserved: usize) -> Result<(), Refusal> {
     check_vertex_count(vertices)?;
     if reserved < 2 * vertices {
         Ok(())
@@ -262,13 +262,26 @@ fn check_head(vertices: usize, reserved: usize) -> Result<(), Refusal> {
 }
 
 fn check_edge(vertices: usize, edge: Edge) -> Result<(), Refusal> {
-    if usize::from(edge.high) >= vertices || edge.low >= edge.high {
-        return Err(BAD_EDGE);
+    check_ends(vertices, edge.low, edge.high)?;
+    check_cost(edge.cost)
+}
+
+/// The ends of an edge or a span.
+pub(crate) fn check_ends(vertices: usize, low: u16, high: u16) -> Result<(), Refusal> {
+    if low < high && usize::from(high) < vertices {
+        Ok(())
+    } else {
+        Err(BAD_EDGE)
     }
-    if !(-COST_LIMIT..=COST_LIMIT).contains(&edge.cost) {
-        return Err(BAD_COST);
+}
+
+/// The cost of an edge or a span.
+pub(crate) fn check_cost(cost: i64) -> Result<(), Refusal> {
+    if (-COST_LIMIT..=COST_LIMIT).contains(&cost) {
+        Ok(())
+    } else {
+        Err(BAD_COST)
     }
-    Ok(())
 }
 
 fn check_listed(vertices: usize, before: Option<u16>, edge: u16) -> Result<(), Refusal> {
@@ -281,16 +294,16 @@ fn check_listed(vertices: usize, before: Option<u16>, edge: u16) -> Result<(), R
 }
 
 /// A two-byte field as a number.
-fn as_number(field: i64) -> u16 {
+pub(crate) fn as_number(field: i64) -> u16 {
     u16::try_from(field).expect("the field has two bytes")
 }
 
 /// A two-byte field as a count or a place.
-fn as_size(field: i64) -> usize {
+pub(crate) fn as_size(field: i64) -> usize {
     usize::from(as_number(field))
 }
 
 /// A count or a place as a field.
-fn as_field(size: usize) -> i64 {
+pub(crate) fn as_field(size: usize) -> i64 {
     i64::try_from(size).expect("the size fits into two bytes")
 }

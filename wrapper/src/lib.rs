@@ -2,8 +2,8 @@
 //!
 //! Here every answer comes in vectors of its own. [`raw`] has the same services over slices that the caller lends.
 //!
-//! [`plan`] and [`check_chain`] go as deep as there are vertices: a thread that calls them needs 1.6 MB of stack for
-//! 256 vertices, which the threads of the standard library have.
+//! [`plan`], [`plan_table`] and [`check_chain`] go as deep as there are vertices: a thread that calls them needs 1.6 MB
+//! of stack for 256 vertices, which the threads of the standard library have.
 //!
 //! ```
 //! let network = b"0100020000\n\
@@ -15,6 +15,15 @@
 //! assert_eq!(plan.chain, b"040003\n");
 //! assert_eq!(thinning::check_chain(network, &plan.chain), Ok(plan.kept));
 //! ```
+//!
+//! A table stands for a network, here by one span of doubled weight 4: four edges between two vertices, at cost 3 each.
+//!
+//! ```
+//! let table = b"08000200000001\n09000000010400000003\n";
+//! let network = thinning::table_network(table).unwrap();
+//! assert!(network.starts_with(b"0100020000\n0200000000000100000003\n"));
+//! assert_eq!(thinning::plan_table(table), thinning::plan(&network));
+//! ```
 
 #![deny(unsafe_code)]
 
@@ -22,12 +31,14 @@ mod meanings;
 #[allow(unsafe_code)]
 pub mod raw;
 mod refusal;
+mod tables;
 mod texts;
 
 pub use meanings::{
     read_chain, read_list, read_network, write_chain, write_list, write_network, Chain, Network,
 };
 pub use refusal::Refusal;
+pub use tables::{check_table, plan_table, table_network};
 pub use texts::{audit, check_chain, check_network, plan, Audit, Plan};
 
 /// The most vertices of a network.
@@ -44,3 +55,5 @@ pub const CHAIN_TEXT: usize = 3_817;
 pub const KEPT_TEXT: usize = 3_612;
 /// The most bytes of an audit list.
 pub const LIST_TEXT: usize = 3_584;
+/// The most bytes of a table text.
+pub const TABLE_TEXT: usize = 10_767;

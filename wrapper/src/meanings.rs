@@ -114,7 +114,7 @@ pub fn write_list(vertices: usize, edges: &[u16]) -> Result<Vec<u8>, Refusal> {
 }
 
 /// What a writer puts into a buffer that takes every text of its kind.
-fn written(
+pub(crate) fn written(
     room: usize,
     write: impl FnOnce(&mut [u8], &mut usize) -> u32,
 ) -> Result<Vec<u8>, Refusal> {

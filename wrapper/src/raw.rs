@@ -39,6 +39,24 @@ mod declared {
             reached: *mut usize,
             critical: *mut usize,
         ) -> u32;
+        pub fn thinning_check_table(table: *const u8, table_len: usize) -> u32;
+        pub fn thinning_plan_table(
+            table: *const u8,
+            table_len: usize,
+            chain: *mut u8,
+            chain_len: usize,
+            kept: *mut u8,
+            kept_len: usize,
+            chain_written: *mut usize,
+            kept_written: *mut usize,
+        ) -> u32;
+        pub fn thinning_table_network(
+            table: *const u8,
+            table_len: usize,
+            network: *mut u8,
+            network_len: usize,
+            written: *mut usize,
+        ) -> u32;
         pub fn thinning_read_network(
             text: *const u8,
             text_len: usize,
@@ -310,6 +328,49 @@ pub fn audit(
             connected,
             reached,
             critical,
+        )
+    }
+}
+
+/// Checks a table text.
+pub fn check_table(table: &[u8]) -> u32 {
+    // SAFETY: the text is a slice that is only read.
+    unsafe { declared::thinning_check_table(table.as_ptr(), table.len()) }
+}
+
+/// Plans a table text: the chain text, the kept text and their lengths.
+pub fn plan_table(
+    table: &[u8],
+    chain: &mut [u8],
+    kept: &mut [u8],
+    chain_written: &mut usize,
+    kept_written: &mut usize,
+) -> u32 {
+    // SAFETY: the text is a slice that is only read; both buffers and both numbers are lent to this call alone.
+    unsafe {
+        declared::thinning_plan_table(
+            table.as_ptr(),
+            table.len(),
+            chain.as_mut_ptr(),
+            chain.len(),
+            kept.as_mut_ptr(),
+            kept.len(),
+            chain_written,
+            kept_written,
+        )
+    }
+}
+
+/// Writes the network text that a table text stands for, and its length.
+pub fn table_network(table: &[u8], network: &mut [u8], written: &mut usize) -> u32 {
+    // SAFETY: the text is a slice that is only read; the buffer and the number are lent to this call alone.
+    unsafe {
+        declared::thinning_table_network(
+            table.as_ptr(),
+            table.len(),
+            network.as_mut_ptr(),
+            network.len(),
+            written,
         )
     }
 }

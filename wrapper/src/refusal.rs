@@ -13,7 +13,8 @@ pub enum Refusal {
     Vertices = 2,
     /// The reserved edge is none of the network's.
     Reserved = 3,
-    /// An edge out of its place, or its ends are not two vertices of the network, the lower one first.
+    /// An edge out of its place, or the ends of an edge or a span are not two vertices of the network, the lower one
+    /// first.
     Edge = 4,
     /// A cost below -1000000000 or above 1000000000.
     Cost = 5,
@@ -35,11 +36,15 @@ pub enum Refusal {
     ShortBuffer = 13,
     /// A listed edge is none of the network's, or not above the one before it.
     Listed = 14,
+    /// A span's doubled weight is not 1 to 4, or its pair of ends is not above the one before it.
+    Span = 15,
+    /// More spans than the network has edges, or doubled weights that do not total as many.
+    Total = 16,
 }
 
 impl Refusal {
     /// Every refusal, by its number.
-    pub const ALL: [Refusal; 14] = [
+    pub const ALL: [Refusal; 16] = [
         Refusal::Form,
         Refusal::Vertices,
         Refusal::Reserved,
@@ -54,6 +59,8 @@ impl Refusal {
         Refusal::Dropped,
         Refusal::ShortBuffer,
         Refusal::Listed,
+        Refusal::Span,
+        Refusal::Total,
     ];
 
     /// The number that the services answer with.
@@ -67,7 +74,9 @@ impl Refusal {
             Refusal::Form => "the form is broken",
             Refusal::Vertices => "the number of vertices is not 2 to 256",
             Refusal::Reserved => "the reserved edge is none of the network's",
-            Refusal::Edge => "an edge is out of its place or its ends are wrong",
+            Refusal::Edge => {
+                "an edge is out of its place, or the ends of an edge or a span are wrong"
+            }
             Refusal::Cost => "a cost is beyond its limits",
             Refusal::Degree => "a vertex has not degree 4",
             Refusal::Cut => "fewer than four edges cross a cut",
@@ -78,6 +87,8 @@ impl Refusal {
             Refusal::Dropped => "the dropped edge is none of the last three or not a dearest",
             Refusal::ShortBuffer => "a buffer is too short",
             Refusal::Listed => "a listed edge is none of the network's or does not rise",
+            Refusal::Span => "a span's doubled weight is not 1 to 4 or its ends do not rise",
+            Refusal::Total => "the spans do not stand for as many edges as the network has",
         }
     }
 
@@ -85,7 +96,7 @@ impl Refusal {
     pub(crate) fn judge(answer: u32) -> Result<(), Refusal> {
         match answer {
             0 => Ok(()),
-            number => Err(Refusal::try_from(number).expect("the services answer 0 to 14")),
+            number => Err(Refusal::try_from(number).expect("the services answer 0 to 16")),
         }
     }
 }
@@ -93,7 +104,7 @@ impl Refusal {
 impl TryFrom<u32> for Refusal {
     type Error = u32;
 
-    /// The refusal of a number from 1 to 14; any other number comes back as the error.
+    /// The refusal of a number from 1 to 16; any other number comes back as the error.
     fn try_from(number: u32) -> Result<Refusal, u32> {
         Refusal::ALL
             .into_iter()
@@ -122,7 +133,7 @@ mod tests {
             assert_eq!(Refusal::judge(place), Err(refusal));
         }
         assert_eq!(Refusal::judge(0), Ok(()));
-        for none in [0, 15, u32::MAX] {
+        for none in [0, 17, u32::MAX] {
             assert_eq!(Refusal::try_from(none), Err(none));
         }
     }

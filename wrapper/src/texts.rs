@@ -29,10 +29,18 @@ pub fn check_network(network: &[u8]) -> Result<(), Refusal> {
 
 /// Plans a network text: refusals 1 to 7.
 pub fn plan(network: &[u8]) -> Result<Plan, Refusal> {
+    planned(|chain, kept, chain_written, kept_written| {
+        raw::plan(network, chain, kept, chain_written, kept_written)
+    })
+}
+
+/// What a planner puts into buffers that take every plan.
+pub(crate) fn planned(
+    plan: impl FnOnce(&mut [u8], &mut [u8], &mut usize, &mut usize) -> u32,
+) -> Result<Plan, Refusal> {
     let (mut chain, mut kept) = (vec![0; CHAIN_TEXT], vec![0; KEPT_TEXT]);
     let (mut chain_written, mut kept_written) = (0, 0);
-    Refusal::judge(raw::plan(
-        network,
+    Refusal::judge(plan(
         &mut chain,
         &mut kept,
         &mut chain_written,

@@ -1,5 +1,6 @@
 //! Chains by rule with random choices, and chains with a fault that is aimed at.
 
+use super::damage::break_line;
 use super::{damage, Rng};
 use crate::network::Method;
 use crate::refusal::{
@@ -320,15 +321,7 @@ fn broken_form(rng: &mut Rng, network: &Network, aim: Aim) -> Vec<u8> {
         ]));
         return text;
     }
-    let at = rng.below(text.len());
-    match rng.below(4) {
-        0 => text[at] = rng.pick(b"AFg \r-\x00\xff"),
-        1 => text.insert(at, rng.pick(b"0f\n\r")),
-        2 => {
-            text.remove(at);
-        }
-        _ => text.truncate(at),
-    }
+    break_line(rng, &mut text);
     text
 }
 

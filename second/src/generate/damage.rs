@@ -158,6 +158,19 @@ pub fn damage(rng: &mut Rng, text: &[u8]) -> Vec<u8> {
     damaged
 }
 
+/// Breaks a line of a text that reads, so that the reader refuses its form there.
+pub(super) fn break_line(rng: &mut Rng, text: &mut Vec<u8>) {
+    let at = rng.below(text.len());
+    match rng.below(4) {
+        0 => text[at] = rng.pick(b"AFg \r-\x00\xff"),
+        1 => text.insert(at, rng.pick(b"0f\n\r")),
+        2 => {
+            text.remove(at);
+        }
+        _ => text.truncate(at),
+    }
+}
+
 fn any_digit(rng: &mut Rng) -> u8 {
     rng.pick(b"0123456789abcdef")
 }

@@ -292,7 +292,7 @@ impl Shapeless {
 }
 
 /// Two different numbers below the bound, which is at least two.
-fn two_below(rng: &mut Rng, bound: usize) -> (usize, usize) {
+pub(super) fn two_below(rng: &mut Rng, bound: usize) -> (usize, usize) {
     let a = rng.below(bound);
     (a, (a + rng.between(1, bound - 1)) % bound)
 }
