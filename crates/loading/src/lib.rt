@@ -66,7 +66,7 @@ pub fn nothing() -> Network
 }
 
 // A refusal's number and no network.
-fn refuse(refusal: u8) -> Loaded
+pub fn refuse(refusal: u8) -> Loaded
     ensures { λ r. ⌜ r ≡ loadedOf (refused refusal) ⌝ }
 {
     let network = nothing();
