@@ -1,19 +1,24 @@
 -- The network check by its steps, and what is known of an accepted network.
-use mathlib.Core.Path.{_≡_, refl, _∙_}
+use mathlib.Core.Path.{_≡_, refl, sym, _∙_, ap}
 use mathlib.Core.Bool.{Bool, true, false}
 use mathlib.Core.List.{List}
-use Prim.Native.Nat.{ℕ, zero, suc, _-_, _≤_}
+use Prim.Native.Nat.{ℕ, _+_, _-_, _≤_}
 use native.Mathlib.Omega.{arith}
 use lib.ListN.{length}
-use Rattle.base.proofs.Bools.{no-answer}
+use Rattle.base.proofs.Answers.{then-refused, then-answer, unless-answered}
+use Rattle.base.proofs.Bools.{no-answer, bit-low}
+use Rattle.base.proofs.Sums.{sum-bound}
 use Rattle.base.specs.Answer.{Answer, refused, answer, andThen, unless}
+use Rattle.base.specs.Fold.{bit}
 use Rattle.network_text.specs.Text.{Meaning, readNetwork}
 use Rattle.base.specs.Refusals.{DEGREE, CUT}
 use Rattle.base.proofs.Numbered.{Numbered, answered, unless-numbered, then-numbered, numbered-up}
 use Rattle.loading.specs.Known.{Known}
-use Rattle.loading.specs.Loading.{networkOf, loadNetwork}
-use Rattle.loading.proofs.Reading.{load-numbered, loaded-known}
+use Rattle.loading.specs.Loading.{networkOf, loadNetwork, loadedOf, loadedAnswer}
+use Rattle.loading.specs.declared.Loaded.{Loaded}
+use Rattle.loading.proofs.Reading.{loaded-read, load-numbered, loaded-known, answer-numbered, loaded-again}
 use Rattle.graph.specs.Cut.{everyCut, fourEach, networkRefusal}
+use Rattle.graph.specs.Network.{here}
 use Rattle.base.specs.Limits.{vertexLimit}
 use Rattle.graph.specs.declared.Network.{Network}
 use Rattle.graph.proofs.Backs.{passes-good}
@@ -22,7 +27,7 @@ use Rattle.graph.proofs.Numbers.{network-number}
 use Rattle.claim.specs.declared.Acceptance.the-variants.{Accepted, Refused}
 use Rattle.rules.specs.Running.{Running, Keeping}
 use Rattle.claim.specs.Verdicts.{checkChain}
-use Rattle.claim.specs.Services.{acceptNetwork, acceptanceOf, keptIn, checkChainText}
+use Rattle.claim.specs.Services.{accepting, acceptNetwork, acceptanceOf, keptIn, checkChainText}
 use Rattle.claim.proofs.ChainTexts.{bytes-meant}
 
 -- ── refusals 6 and 7 ──
@@ -39,22 +44,54 @@ module _ (g : Network) where
   unfolding networkRefusal
   not-refused h k = rw (h, k)
 
--- ── the check of a text ──
-pub accept-refused : (t : List ℕ) (k : ℕ) → loadNetwork t ≡ refused k → acceptNetwork t ≡ refused k
-unfolding acceptNetwork andThen
-accept-refused t k e = rw e
+-- ── the check of a network that was loaded, from whatever text ──
+module _ (a : Answer Network) where
+  pub accepting-refused : (k : ℕ) → a ≡ refused k → accepting a ≡ refused k
+  accepting-refused k e = then-refused a _ k e
 
-pub accept-judged : (t : List ℕ) (g : Network) (k : ℕ) → loadNetwork t ≡ answer g → k ≡ networkRefusal g
-    → acceptNetwork t ≡ unless k (answer g)
-unfolding acceptNetwork andThen
-accept-judged t g k e q = rw (e, q)
+  pub accepting-judged : (g : Network) (k : ℕ) → a ≡ answer g → k ≡ networkRefusal g → accepting a ≡ unless k (answer g)
+  accepting-judged g k e q = then-answer a _ g e ∙ ap (λ j. unless j (answer g)) (sym q)
 
--- the refusals of the network check are 1 to 7
-pub accept-numbered : (t : List ℕ) → Numbered CUT (acceptNetwork t)
-unfolding acceptNetwork
-accept-numbered t =
-    then-numbered (loadNetwork t) _ (numbered-up (omega arith) (load-numbered t))
-    (λ g. unless-numbered (networkRefusal g) _ (network-number g) (answered g))
+  -- its refusals are those met before, and 6 and 7
+  pub accepting-numbered : {top : ℕ} → CUT ≤ top → Numbered top a → Numbered top (accepting a)
+  accepting-numbered h n =
+      then-numbered a _ n
+      (λ g. unless-numbered (networkRefusal g) _ (omega (arith, network-number g)) (answered g))
+
+  -- what is accepted was loaded, and is not refused
+  pub accepting-answered : (g : Network) → accepting a ≡ answer g → (a ≡ answer g) × (networkRefusal g ≡ 0)
+  accepting-answered g e = go a refl e
+    where
+      go : (b : Answer Network) → a ≡ b → accepting b ≡ answer g → (a ≡ answer g) × (networkRefusal g ≡ 0)
+      go (refused k) q e = unfold andThen in no-answer (cc)
+      go (answer h) q e = unfold andThen in
+          let w = unless-answered (networkRefusal h) (answer h) g e in
+          let x : h ≡ g = cc in
+          rw (← x) (q, w .0)
+
+-- a known network that is not refused runs
+pub known-running : {g : Network} → Known g → networkRefusal g ≡ 0 → Running g
+known-running k p =
+    record {
+      sound = accepted-sound (k .fresh) p;
+      light = k .light;
+      left = omega (arith, fresh-remaining (k .fresh), k .several);
+      edge-room = k .edge-room;
+      vertex-room = k .vertex-room;
+      long = k .long;
+    }
+
+-- so an accepted one does, where what was loaded is known
+pub accepting-running : (a : Answer Network) → ((g : Network) → a ≡ answer g → Known g)
+    → (g : Network) → accepting a ≡ answer g → Running g
+accepting-running a known g e = let w = accepting-answered a g e in known-running (known g (w .0)) (w .1)
+
+-- the vertices of a running network are no more than there is room for
+pub running-few : {g : Network} → Running g → g .remaining ≤ vertexLimit
+running-few {g} run =
+    let counted = run .sound .formed .counted in
+    let few = sum-bound (g .vertices) 1 (λ v. bit (here g v)) (λ v l. bit-low (here g v)) in
+    omega (arith, run .vertex-room)
 
 pub answered-refused : (a : Answer Network) (k : ℕ) → a ≡ refused k → Refused k ≡ acceptanceOf a
 unfolding acceptanceOf
@@ -64,7 +101,26 @@ pub answered-accepted : (a : Answer Network) (g : Network) → a ≡ answer g �
 unfolding acceptanceOf
 answered-accepted a g e = rw e
 
--- ── an accepted network ──
+-- ── what was loaded, by its refusal ──
+
+-- every refusal of its check has a number
+pub loaded-numbered : (l : Loaded) → Numbered (CUT + l .refusal) (accepting (loadedAnswer l))
+loaded-numbered l = accepting-numbered (loadedAnswer l) (omega arith) (answer-numbered l (omega arith))
+
+-- ── the check of a text ──
+
+-- what a text loads is accepted as the text is
+pub accept-loaded : (t : List ℕ) {l : Loaded} → l ≡ loadedOf (loadNetwork t)
+    → accepting (loadedAnswer l) ≡ acceptNetwork t
+unfolding acceptNetwork
+accept-loaded t e = ap accepting (loaded-again (loadNetwork t) (load-numbered t) e)
+
+-- its refusals are 1 to 7
+pub accept-numbered : (t : List ℕ) → Numbered CUT (acceptNetwork t)
+unfolding acceptNetwork
+accept-numbered t = accepting-numbered (loadNetwork t) (omega arith) (numbered-up (omega arith) (load-numbered t))
+
+-- ── an accepted text ──
 pub record Whole (t : List ℕ) (g : Network) : Type 0 where
   pub meaning : Meaning
   pub read : readNetwork t ≡ answer meaning
@@ -73,23 +129,15 @@ pub record Whole (t : List ℕ) (g : Network) : Type 0 where
   pub passed : networkRefusal g ≡ 0
 
 pub accepted-whole : (t : List ℕ) (g : Network) → acceptNetwork t ≡ answer g → Whole t g
-unfolding acceptNetwork loadNetwork andThen
-accepted-whole t g e = go (readNetwork t) refl e
-  where
-    judged : (h : Network) (k : ℕ) → networkRefusal h ≡ k → unless k (answer h) ≡ answer g
-        → (networkRefusal h ≡ 0) × (h ≡ g)
-    judged h zero q e = unfold unless in (q, cc)
-    judged h (suc k) q e = unfold unless in no-answer (cc)
+unfolding acceptNetwork
+accepted-whole t g e =
+    let w = accepting-answered (loadNetwork t) g e in
+    let r = loaded-read t g (w .0) in
+    record { meaning = r .0; read = r .1; state-is = r .2; known = loaded-known t g (w .0); passed = w .1 }
 
-    go : (a : Answer Meaning) → readNetwork t ≡ a
-        → andThen (andThen a (λ m. answer (networkOf m))) (λ g. unless (networkRefusal g) (answer g)) ≡ answer g
-        → Whole t g
-    go (refused k) q e = unfold andThen in no-answer (cc)
-    go (answer m) q e = unfold andThen in
-        let w = judged (networkOf m) (networkRefusal (networkOf m)) refl e in
-        let loaded : loadNetwork t ≡ answer (networkOf m) = unfold loadNetwork andThen in rw q in
-        let known = loaded-known t (networkOf m) loaded in
-        rw (← w .1) (record { meaning = m; read = q; state-is = refl; known = known; passed = w .0 })
+pub accepted-running : (t : List ℕ) (g : Network) → acceptNetwork t ≡ answer g → Running g
+unfolding acceptNetwork
+accepted-running t g e = accepting-running (loadNetwork t) (loaded-known t) g e
 
 -- a network that reads and is not refused is accepted
 pub whole-accepted : (t : List ℕ) (m : Meaning) → readNetwork t ≡ answer m → networkRefusal (networkOf m) ≡ 0
@@ -97,22 +145,7 @@ pub whole-accepted : (t : List ℕ) (m : Meaning) → readNetwork t ≡ answer m
 unfolding acceptNetwork loadNetwork andThen unless
 whole-accepted t m q p = rw (q, p)
 
--- an accepted network runs
-pub accepted-running : (t : List ℕ) (g : Network) → acceptNetwork t ≡ answer g → Running g
-accepted-running t g e =
-    let w = accepted-whole t g e in
-    let k = w .known in
-    record {
-      sound = accepted-sound (k .fresh) (w .passed);
-      light = k .light;
-      left = omega (arith, fresh-remaining (k .fresh), k .several);
-      edge-room = k .edge-room;
-      vertex-room = k .vertex-room;
-      long = k .long;
-    }
-
-pub remaining-few : (t : List ℕ) (g : Network) → acceptNetwork t ≡ answer g → g .remaining ≤ vertexLimit
-remaining-few t g e = let k = accepted-whole t g e .known in omega (arith, fresh-remaining (k .fresh), k .vertex-room)
+-- ── what is kept ──
 
 -- marks of a running network that are as long as its columns
 pub running-keeping : {g : Network} → Running g → (K : List Bool) → length K ≡ length (g .low) → Keeping g K

@@ -1,25 +1,26 @@
 -- The claim of condition 3, for every accepted network, whichever edge is
 -- reserved, whatever bytes are proposed and whatever buffers are lent.
 use mathlib.Core.Path.{_≡_, refl, sym, _∙_, ap}
-use mathlib.Core.Logic.{_⊎_, inl, inr, ⊎-elim}
-use mathlib.Core.Bool.{Bool, true, false, cond, and-false}
+use mathlib.Core.Logic.{inl, inr, ⊎-elim}
+use mathlib.Core.Bool.{Bool, true, false, cond}
 use mathlib.Core.List.{List, _∷_}
-use Prim.Native.Nat.{ℕ, zero, suc, _-_, _*_, _≤_, _<_}
+use Prim.Native.Nat.{ℕ, zero, suc, _-_, _*_, _<_}
 use native.Mathlib.Omega.{arith}
 use native.Mathlib.Decide.{decLt}
 use lib.Dec.{eqb}
 use lib.ListN.{length}
-use borrow.Author.Tests.{eq-eqb, le-leb, lt-leb}
+use borrow.Author.Tests.{eq-eqb}
 use Rattle.base.proofs.Bools.{no-answer, same-test}
-use Rattle.base.specs.Answer.{Answer, refused as refusedBy, answer, andThen, roomIn, refused}
+use Rattle.base.specs.Answer.{Answer, refused as refusedBy, answer, andThen, refused}
 use Rattle.base.specs.Refusals.{SHORT}
 use Rattle.base.specs.declared.reply.Reply.the-variants.{Refused}
-use Rattle.base.proofs.Answers.{given-fits, given-short, refuses, fits, short}
+use Rattle.base.proofs.Answers.{then-answer, refuses, fits, short}
 use Rattle.network_text.specs.Text.{Meaning, meant as meaning}
 use Rattle.network_text.proofs.OneToOne.{read-written, written-read, any-reserved}
 use Rattle.network_text.proofs.Meaning.{read-valid}
+use Rattle.loading.specs.Known.{Known}
 use Rattle.loading.specs.Loading.{stateOf, networkOf}
-use Rattle.loading.proofs.Meanings.{loaded-fresh}
+use Rattle.loading.proofs.Meanings.{loaded-formed}
 use Rattle.kept_text.specs.Text.{keptEdges, keptText}
 use Rattle.base.specs.Fold.{among, pick}
 use Rattle.graph.specs.Network.{endsAt, degree, kept, keptCost, allButReserved}
@@ -33,19 +34,17 @@ use Rattle.graph.proofs.EveryCut.{every-cut-complete}
 use Rattle.graph.proofs.Checking.{passes-ruled}
 use Rattle.graph.proofs.Backs.{back-good, back-below, check-back, back-check}
 use Rattle.graph.proofs.Condition.{plan-checked}
-use Rattle.claim.specs.declared.Planned.the-variants as plan
 use Rattle.rules.specs.Running.{Running}
 use Rattle.claim.specs.Verdicts.{checkChain}
 use Rattle.claim.specs.Plans.{planChain}
 use Rattle.claim.specs.Services.{acceptNetwork, keptTextOf, keptIn, checkChainText, chainReply, keptAfter}
-use Rattle.claim.specs.Services.{Texts}
-use Rattle.claim.specs.Services.{textsOf, planText, planRoom, planGiven, planReply}
+use Rattle.claim.specs.Services.{Texts, textsOf, planOf, planGiven}
 use Rattle.claim.specs.Condition.{CrossesEach, Accepted, reserving, Ruled, Rising, Owed, Passes, PlanWrites}
 use Rattle.claim.specs.Condition.{Claim}
 use Rattle.claim.proofs.ChainTexts.{bytes-meant, meaning-passes}
-use Rattle.claim.proofs.Accepting.{not-refused, accept-numbered, accepted-whole, whole-accepted}
+use Rattle.claim.proofs.Accepting.{not-refused, known-running, accept-numbered, accepted-whole, whole-accepted}
 use Rattle.claim.proofs.Accepting.{accepted-running, chain-network-refused, chain-kept}
-use Rattle.claim.proofs.Handing.{handed-refused, handed-over, plan-refused}
+use Rattle.claim.proofs.Handing.{too-short, long-enough, which-short, handed-refused, handed-over, plan-refused}
 use Rattle.claim.proofs.Meets.{chain-meets}
 
 -- ── the edges that a kept text lists ──
@@ -89,34 +88,41 @@ every-cut k K formed h S d =
     h S (d .inner) (d .outer) (formed .here-below (d .inner) (d .inner-here))
     (formed .here-below (d .outer) (d .outer-here)) (d .inner-in) (d .outer-out)
 
+-- a known network that is not refused has four edges at every vertex and at least four across every cut
+pub passed-four : {g : Network} → Known g → networkRefusal g ≡ 0
+    → ((v : ℕ) → v < g .vertices → degree g v ≡ 4) × CrossesEach 4 g (λ e. true)
+passed-four k p =
+    let sound = known-running k p .sound in
+    (λ v l. sound .degrees v (k .fresh .all-here v l), crosses-each 4 (λ e. true) (k .fresh) (sound .cuts))
+
+-- and the other way round
+pub four-passed : {g : Network} → Formed g → ((v : ℕ) → v < g .vertices → degree g v ≡ 4)
+    → CrossesEach 4 g (λ e. true) → networkRefusal g ≡ 0
+four-passed {g} formed degrees cuts =
+    sym (not-refused g four (every-cut-complete 4 g (λ e. true) (every-cut 4 (λ e. true) formed cuts)))
+  where
+    four : fourEach g ≡ true
+    four = unfold fourEach in
+        each-in (g .vertices) (λ v. eqb (degree g v) 4) (λ v l. eq-eqb (degree g v) 4 (degrees v l))
+
 is-accepted : (t : List ℕ) (g : Network) → acceptNetwork t ≡ answer g → Accepted t g
 is-accepted t g e =
     let w = accepted-whole t g e in
-    let fresh = w .known .fresh in
-    let sound = accepted-running t g e .sound in
+    let four = passed-four (w .known) (w .passed) in
     record {
       meaning = w .meaning;
       text-is = written-read t (w .meaning) (w .read);
       state-is = w .state-is;
-      degrees = λ v l. sound .degrees v (fresh .all-here v l);
-      cuts = crosses-each 4 (λ e. true) fresh (sound .cuts);
+      degrees = four .0;
+      cuts = four .1;
     }
 
 accepts : {t : List ℕ} {g : Network} → Accepted t g → acceptNetwork t ≡ answer g
 accepts {t} {g} a =
     let q = read-written (a .meaning) t (a .text-is) in
-    whole-accepted t (a .meaning) q (ap networkRefusal (a .state-is) ∙ passed) ∙ ap answer (a .state-is)
-  where
-    formed : Formed g
-    formed = rw (← a .state-is)
-        (loaded-fresh (read-valid t (a .meaning) (read-written (a .meaning) t (a .text-is))) .formed)
-
-    four : fourEach g ≡ true
-    four = unfold fourEach in
-        each-in (g .vertices) (λ v. eqb (degree g v) 4) (λ v l. eq-eqb (degree g v) 4 (a .degrees v l))
-
-    passed : networkRefusal g ≡ 0
-    passed = sym (not-refused g four (every-cut-complete 4 g (λ e. true) (every-cut 4 (λ e. true) formed (a .cuts))))
+    let formed : Formed g = rw (← a .state-is) (loaded-formed (read-valid t (a .meaning) q)) in
+    whole-accepted t (a .meaning) q (ap networkRefusal (a .state-is) ∙ four-passed formed (a .degrees) (a .cuts))
+    ∙ ap answer (a .state-is)
 
 -- ── another edge reserved ──
 
@@ -144,7 +150,52 @@ accepted-any t g e r h =
           (whole-accepted (s .0) other (s .1) (ap networkRefusal same ∙ refusal-same r g ∙ w .passed) ∙ ap answer same),
     )
 
--- ── chains ──
+-- ── chains over a network that runs ──
+module _ {g : Network} (run : Running g) where
+  -- bytes that are kept keep the rules, and going back gives what is kept
+  pub keeps-ruled : {chain : List ℕ} {K : List Bool} → checkChain (g .remaining - 2) g chain ≡ answer K
+      → Ruled g chain K
+  keeps-ruled {chain} {K} e =
+      let m = bytes-meant (g .remaining - 2) g chain K (omega (arith, run .left)) e in
+      let r = passes-ruled (m .steps) (run .sound) (m .dropped) K (m .passes) in
+      record {
+        steps = m .steps;
+        dropped = m .dropped;
+        text-is = m .text-is;
+        by-rules = r;
+        back = check-back (run .sound) r (m .passes);
+      }
+
+  -- and the other way round
+  pub ruled-keeps : {chain : List ℕ} {K : List Bool} → Ruled g chain K
+      → checkChain (g .remaining - 2) g chain ≡ answer K
+  ruled-keeps {chain} {K} r =
+      ap (checkChain (g .remaining - 2) g) (r .text-is)
+      ∙ meaning-passes (r .steps) (r .dropped) run K (back-check (run .sound) (r .by-rules) (r .back))
+
+  pub one-set : {chain : List ℕ} {K L : List Bool} → Ruled g chain K → Ruled g chain L → K ≡ L
+  one-set r s = let p = ruled-keeps r in let q = ruled-keeps s in cc
+
+  pub ruled-owed : Fresh g → {chain : List ℕ} {K : List Bool} → Ruled g chain K → Owed g K
+  ruled-owed fresh {K = K} r =
+      let good = back-good (run .sound) (r .by-rules) (r .back) in
+      record {
+        lists = listed (g .edges) K (back-below (run .sound) (r .by-rules) (r .back));
+        rises = rising (g .edges) K;
+        leaves-out = good .leaves-out;
+        twice = crosses-each 2 (kept K) fresh (good .twice);
+        ratio = good .ratio;
+      }
+
+  -- the plan's chain keeps what the plan keeps
+  pub plan-keeps : let n = g .remaining - 2 in checkChain n g (planChain n g) ≡ answer (planKept n g)
+  unfolding planChain
+  plan-keeps =
+      let n = g .remaining - 2 in
+      meaning-passes (planSteps n g) (planDrop n g) run (planKept n g)
+      (plan-checked n (run .sound) (omega (arith, run .left)))
+
+-- ── chains over an accepted text ──
 module _ {t : List ℕ} {g : Network} (a : Accepted t g) where
   running : Running g
   running = accepted-running t g (accepts a)
@@ -158,44 +209,11 @@ module _ {t : List ℕ} {g : Network} (a : Accepted t g) where
       go : (w : Answer (List Bool)) → checkChain (g .remaining - 2) g chain ≡ w → keptIn g w ≡ answer text
           → (K : List Bool) × Ruled g chain K × (text ≡ keptTextOf g K)
       go (refused k) q h = no-answer (cc)
-      go (answer K) q h =
-          let m = bytes-meant (g .remaining - 2) g chain K (omega (arith, running .left)) q in
-          let r = passes-ruled (m .steps) (running .sound) (m .dropped) K (m .passes) in (
-            K,
-            record {
-              steps = m .steps;
-              dropped = m .dropped;
-              text-is = m .text-is;
-              by-rules = r;
-              back =
-                  check-back (running .sound) r (m .passes);
-            },
-            cc,
-          )
-
-  -- the check of bytes that keep the rules keeps what going back gives
-  ruled-keeps : {chain : List ℕ} {K : List Bool} → Ruled g chain K → checkChain (g .remaining - 2) g chain ≡ answer K
-  ruled-keeps {chain} {K} r =
-      ap (checkChain (g .remaining - 2) g) (r .text-is)
-      ∙ meaning-passes (r .steps) (r .dropped) running K (back-check (running .sound) (r .by-rules) (r .back))
+      go (answer K) q h = (K, keeps-ruled running q, cc)
 
   ruled-answers : {chain : List ℕ} {K : List Bool} → Ruled g chain K → checkChainText t chain ≡ answer (keptTextOf g K)
   unfolding keptIn
-  ruled-answers {chain} {K} r = chain-kept t chain g (accepts a) K (ruled-keeps r)
-
-  one-set : {chain : List ℕ} {K L : List Bool} → Ruled g chain K → Ruled g chain L → K ≡ L
-  one-set r s = let p = ruled-keeps r in let q = ruled-keeps s in cc
-
-  ruled-owed : {chain : List ℕ} {K : List Bool} → Ruled g chain K → Owed g K
-  ruled-owed {K = K} r =
-      let good = back-good (running .sound) (r .by-rules) (r .back) in
-      record {
-        lists = listed (g .edges) K (back-below (running .sound) (r .by-rules) (r .back));
-        rises = rising (g .edges) K;
-        leaves-out = good .leaves-out;
-        twice = crosses-each 2 (kept K) (accepted-whole t g (accepts a) .known .fresh) (good .twice);
-        ratio = good .ratio;
-      }
+  ruled-answers {chain} {K} r = chain-kept t chain g (accepts a) K (ruled-keeps running r)
 
   -- 13 is the buffer's
   never-short : (chain : List ℕ) → checkChainText t chain ≡ refusedBy SHORT → ⊥
@@ -236,53 +254,26 @@ module _ {t : List ℕ} {g : Network} (a : Accepted t g) where
   due : Texts
   due = textsOf g (planKept (g .remaining - 2) g)
 
-  due-is : planText t ≡ answer due
-  unfolding planText andThen due
-  due-is = rw (accepts a)
+  due-is : planOf (acceptNetwork t) ≡ answer due
+  unfolding due
+  due-is = then-answer (acceptNetwork t) _ g (accepts a)
 
   due-passes : checkChainText t (due .chain) ≡ answer (due .kept)
-  unfolding due textsOf planChain keptIn
-  due-passes =
-      let n = g .remaining - 2 in
-      let run = running a in
-      chain-kept t (planChain n g) g (accepts a) (planKept n g)
-      (meaning-passes (planSteps n g) (planDrop n g) run (planKept n g)
-      (plan-checked n (run .sound) (omega (arith, run .left))))
+  unfolding due textsOf keptIn
+  due-passes = chain-kept t (due .chain) g (accepts a) (planKept (g .remaining - 2) g) (plan-keeps (running a))
 
-  module _ (chain lent : List ℕ) where
-    too-short : (length chain < length (due .chain)) ⊎ (length lent < length (due .kept))
-        → planGiven t chain lent ≡ refusedBy SHORT
-    unfolding planGiven planRoom roomIn
-    too-short s = given-short (planRoom chain lent) (planText t) due due-is (⊎-elim
-        (λ l. rw (lt-leb (length (due .chain)) (length chain) l))
-        (λ l. rw (lt-leb (length (due .kept)) (length lent) l) (and-false (roomIn chain (due .chain)))) s)
-
-    long-enough : length (due .chain) ≤ length chain → length (due .kept) ≤ length lent
-        → planGiven t chain lent ≡ answer due
-    unfolding planGiven planRoom roomIn
-    long-enough c k = given-fits (planRoom chain lent) (planText t) due due-is
-        (rw (le-leb (length (due .chain)) (length chain) c, le-leb (length (due .kept)) (length lent) k))
-
-    which : planReply t chain lent ≡ plan.Refused SHORT
-        → (length chain < length (due .chain)) ⊎ (length lent < length (due .kept))
-    which h = elim (decLt (length chain) (length (due .chain))) [
-      | yes l ↦ inl l
-      | no c ↦ elim (decLt (length lent) (length (due .kept))) [
-        | yes l ↦ inr l
-        | no k ↦ let e = handed-over (planGiven t chain lent) chain lent due
-            (long-enough (omega arith) (omega arith)) .0 in no-answer (cc)
-      ]
-    ]
-
-    plan-writes : PlanWrites t due chain lent
-    plan-writes = record {
-      short = (which, λ s. sym (handed-refused (planGiven t chain lent) chain lent SHORT (too-short s) .0));
-      untouched = λ h. let w =
-          handed-refused (planGiven t chain lent) chain lent SHORT (too-short (which h)) .1 in (sym (w .0), sym (w .1));
-      written = λ c k. let w =
-          handed-over (planGiven t chain lent) chain lent due (long-enough c k) in
-          (sym (w .0), sym (w .1 .0), sym (w .1 .1));
-    }
+  plan-writes : (chain lent : List ℕ) → PlanWrites t due chain lent
+  unfolding planGiven
+  plan-writes chain lent =
+      let which = which-short due-is chain lent in
+      let is-short = too-short due-is chain lent in
+      record {
+        short = (which, λ s. sym (handed-refused _ chain lent SHORT (is-short s) .0));
+        untouched = λ h. let w = handed-refused _ chain lent SHORT (is-short (which h)) .1 in (sym (w .0), sym (w .1));
+        written = λ c k. let w =
+            handed-over _ chain lent due (long-enough due-is chain lent c k) in
+            (sym (w .0), sym (w .1 .0), sym (w .1 .1));
+      }
 
 -- ── the claim ──
 untouched : (t chain lent : List ℕ) (k : ℕ) → chainReply t chain lent ≡ Refused k → keptAfter t chain lent ≡ lent
@@ -310,8 +301,8 @@ claim = record {
     λ h. let r = answers-ruled a chain text h in (r .0, r .1, r .2 ∙ text-of g (r .0)),
     λ r. ruled-answers a (r .1) ∙ ap answer (text-of g (r .0) ∙ sym (r .2)),
   );
-  one = λ a r s. one-set a r s;
-  owed = λ a r. ruled-owed a r;
+  one = λ a r s. one-set (running a) r s;
+  owed = λ {t} {g} a r. ruled-owed (running a) (accepted-whole t g (accepts a) .known .fresh) r;
   short = λ {t} a chain lent.
       (short-ruled a chain lent, λ r. sym (short (checkChainText t chain) lent _ (ruled-answers a (r .1)) (r .2) .0));
   written = λ {t} {g} a {chain} {K} r lent l. let w =
@@ -320,7 +311,8 @@ claim = record {
   planned = λ a. (due a, due-passes a, plan-writes a);
   network-first = λ t k e chain lent. (
     sym (refuses (checkChainText t chain) lent k (chain-network-refused t chain k e) .0),
-    sym (handed-refused (planGiven t chain lent) chain lent k (plan-refused t chain lent k e) .0),
+    sym (handed-refused (planGiven t chain lent) chain lent k
+        (unfold planGiven in plan-refused (acceptNetwork t) chain lent k e) .0),
   );
   network-refusals = λ t k e. let w = accept-numbered t .number k e in (omega (arith, w .0), w .1);
   chain-refusals = λ {t} {g} a chain k e. chain-meets t chain g k (accepts a) e;

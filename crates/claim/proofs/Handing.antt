@@ -1,15 +1,18 @@
 -- Handing the texts of a plan over.
-use mathlib.Core.Path.{_≡_, refl, sym, _∙_, ap, ap₂}
-use mathlib.Core.Bool.{Bool, true, false, _&&_, and-false}
+use mathlib.Core.Path.{_≡_, refl, sym, _∙_, ap}
+use mathlib.Core.Bool.{Bool, and-false}
+use mathlib.Core.Logic.{_⊎_, inl, inr, ⊎-elim}
 use mathlib.Core.List.{List, [], _∷_, map}
 use Prim.Native.Nat.{ℕ, zero, suc, _-_, _≤_, _<_}
 use native.Mathlib.Omega.{arith}
+use native.Mathlib.Decide.{decLt}
 use lib.ListN.{length, take, drop, length-append, length-map}
 use lib.Seq.{take-at}
 use borrow.Author.Tests.{le-leb, lt-leb}
-use Rattle.base.specs.Answer.{Answer, refused, answer, andThen, over, filled, roomIn, over as overColumn}
+use Rattle.base.specs.Answer.{Answer, refused, answer, andThen, given, over, filled, roomIn, over as overColumn}
 use Rattle.base.specs.Refusals.{SHORT}
-use Rattle.base.proofs.Answers.{given-refused, given-short, given-fits, filled-refused, filled-answer}
+use Rattle.base.proofs.Bools.{no-answer}
+use Rattle.base.proofs.Answers.{then-refused, given-refused, given-short, given-fits, filled-refused, filled-answer}
 use Rattle.chain_text.specs.Text.{chainText, stepsOf, chainLength}
 use Rattle.chain_text.proofs.Lengths.{length-chain}
 use Rattle.graph.specs.Split.{after}
@@ -18,13 +21,16 @@ use Rattle.graph.specs.declared.Network.{Network}
 use Rattle.graph.specs.declared.Step.{Step}
 use Rattle.graph.proofs.Backs.{passes-good}
 use Rattle.graph.proofs.Condition.{plan-checked}
+use Rattle.loading.specs.Loading.{loadNetwork, loadedOf, loadedAnswer}
+use Rattle.loading.specs.declared.Loaded.{Loaded}
 use Rattle.rules.specs.declared.planner.Plan.{Plan}
-use Rattle.rules.specs.Plans.{planOf, planV, planX, planY, StepRoom}
+use Rattle.rules.specs.Plans.{planOf as keptPlan, planV, planX, planY, StepRoom}
+use Rattle.rules.specs.Running.{Running}
 use Rattle.claim.specs.declared.Planned.the-variants as planned
 use Rattle.claim.specs.Plans.{inFrame, planChain}
-use Rattle.claim.specs.Services.{Texts, acceptNetwork, keptTextOf, textsOf, planText, planRoom, textsGiven}
+use Rattle.claim.specs.Services.{Texts, accepting, keptTextOf, textsOf, planOf, planRoom, textsGiven, planIn}
 use Rattle.claim.specs.Services.{planGiven, plannedOf, Planning}
-use Rattle.claim.proofs.Accepting.{accepted-running, remaining-few, running-keeping}
+use Rattle.claim.proofs.Accepting.{accept-loaded, running-few, running-keeping}
 
 -- ── lengths ──
 steps-count : (n : ℕ) (g : Network) → length (planSteps n g) ≡ n
@@ -38,38 +44,36 @@ chain-size n g = length-chain (map inFrame (planSteps n g)) (planDrop n g)
     ∙ ap chainLength (length-map (planSteps n g) inFrame ∙ steps-count n g)
 
 -- ── both, or neither ──
-module _ (g : Network) (K : List Bool) (chain kept : List ℕ) where
-  chain-room : chainLength (g .remaining - 2) ≤ length chain → roomIn chain (textsOf g K .chain) ≡ true
-  unfolding textsOf roomIn
-  chain-room h = le-leb (length (planChain (g .remaining - 2) g)) (length chain)
-      (omega (arith, chain-size (g .remaining - 2) g))
 
+-- texts that are due, and two buffers
+module _ {w : Answer Texts} {due : Texts} (e : w ≡ answer due) (chain kept : List ℕ) where
+  pub too-short : (length chain < length (due .chain)) ⊎ (length kept < length (due .kept))
+      → given (planRoom chain kept) w ≡ refused SHORT
+  unfolding planRoom roomIn
+  too-short s = given-short (planRoom chain kept) w due e (⊎-elim
+      (λ l. rw (lt-leb (length (due .chain)) (length chain) l))
+      (λ l. rw (lt-leb (length (due .kept)) (length kept) l) (and-false (roomIn chain (due .chain)))) s)
+
+  pub long-enough : length (due .chain) ≤ length chain → length (due .kept) ≤ length kept
+      → given (planRoom chain kept) w ≡ answer due
+  unfolding planRoom roomIn
+  long-enough c k = given-fits (planRoom chain kept) w due e
+      (rw (le-leb (length (due .chain)) (length chain) c, le-leb (length (due .kept)) (length kept) k))
+
+-- the same of a plan's texts, by how long its chain is
+module _ (g : Network) (K : List Bool) (chain kept : List ℕ) where
   pub short-chain : length chain < chainLength (g .remaining - 2) → textsGiven g K chain kept ≡ refused SHORT
-  unfolding textsGiven planRoom
-  short-chain h = given-short (planRoom chain kept) (answer (textsOf g K)) (textsOf g K) refl
-      (ap (λ t. t && roomIn kept (textsOf g K .kept)) none)
-    where
-      none : roomIn chain (textsOf g K .chain) ≡ false
-      none = unfold textsOf roomIn in
-          lt-leb (length (planChain (g .remaining - 2) g)) (length chain)
-          (omega (arith, chain-size (g .remaining - 2) g))
+  unfolding textsGiven textsOf
+  short-chain h = too-short refl chain kept (inl (omega (arith, chain-size (g .remaining - 2) g)))
 
   pub short-kept : length kept < length (keptTextOf g K) → textsGiven g K chain kept ≡ refused SHORT
-  unfolding textsGiven planRoom
-  short-kept h = given-short (planRoom chain kept) (answer (textsOf g K)) (textsOf g K) refl
-      (ap (λ t. roomIn chain (textsOf g K .chain) && t) none ∙ and-false (roomIn chain (textsOf g K .chain)))
-    where
-      none : roomIn kept (textsOf g K .kept) ≡ false
-      none = unfold textsOf roomIn in lt-leb _ _ h
+  unfolding textsGiven textsOf
+  short-kept h = too-short refl chain kept (inr h)
 
   pub both-fit : chainLength (g .remaining - 2) ≤ length chain → length (keptTextOf g K) ≤ length kept
       → textsGiven g K chain kept ≡ answer (textsOf g K)
-  unfolding textsGiven planRoom
-  both-fit h k = given-fits (planRoom chain kept) (answer (textsOf g K)) (textsOf g K) refl
-      (ap₂ _&&_ (chain-room h) room)
-    where
-      room : roomIn kept (textsOf g K .kept) ≡ true
-      room = unfold textsOf roomIn in le-leb _ _ k
+  unfolding textsGiven textsOf
+  both-fit h k = long-enough refl chain kept (omega (arith, chain-size (g .remaining - 2) g)) k
 
 -- a reply and two buffers after a refusal, and after an answer
 module _ (a : Answer Texts) (chain kept : List ℕ) where
@@ -89,6 +93,19 @@ module _ (a : Answer Texts) (chain kept : List ℕ) where
     rw e,
     (sym (filled-answer (λ t. t .chain) a chain t e), sym (filled-answer (λ t. t .kept) a kept t e)),
   )
+
+-- 13 is given for a buffer that is short, and for nothing else
+pub which-short : {w : Answer Texts} {due : Texts} → w ≡ answer due → (chain kept : List ℕ)
+    → plannedOf (given (planRoom chain kept) w) ≡ planned.Refused SHORT
+    → (length chain < length (due .chain)) ⊎ (length kept < length (due .kept))
+which-short {w} {due} e chain kept h = elim (decLt (length chain) (length (due .chain))) [
+  | yes l ↦ inl l
+  | no c ↦ elim (decLt (length kept) (length (due .kept))) [
+    | yes l ↦ inr l
+    | no k ↦ let x = handed-over (given (planRoom chain kept) w) chain kept due
+        (long-enough e chain kept (omega arith) (omega arith)) .0 in no-answer (cc)
+  ]
+]
 
 -- ── columns of steps ──
 
@@ -115,38 +132,37 @@ unfolding planChain
 chain-of-columns n g = ap (λ ss. chainText ss (planDrop n g)) (columns-are (planSteps n g))
 
 -- ── the plan of an accepted network ──
-module _ (network chain kept : List ℕ) where
-  unread : (k : ℕ) → acceptNetwork network ≡ refused k → planText network ≡ refused k
-  unfolding planText andThen
-  unread k e = rw e
+module _ (a : Answer Network) (chain kept : List ℕ) where
+  pub plan-refused : (k : ℕ) → a ≡ refused k → planIn a chain kept ≡ refused k
+  plan-refused k e = given-refused (planRoom chain kept) (planOf a) k (then-refused a _ k e)
 
-  pub plan-refused : (k : ℕ) → acceptNetwork network ≡ refused k → planGiven network chain kept ≡ refused k
-  unfolding planGiven
-  plan-refused k e = given-refused (planRoom chain kept) (planText network) k (unread k e)
-
-  pub plan-given : (g : Network) → acceptNetwork network ≡ answer g → (K : List Bool)
-      → K ≡ planKept (g .remaining - 2) g
-      → textsGiven g K chain kept ≡ planGiven network chain kept
-  unfolding planGiven planText andThen textsGiven
+  pub plan-given : (g : Network) → a ≡ answer g → (K : List Bool) → K ≡ planKept (g .remaining - 2) g
+      → textsGiven g K chain kept ≡ planIn a chain kept
+  unfolding andThen textsGiven
   plan-given g e K q = rw (e, q)
 
-  -- the plan's steps stand at the start of the columns that they were written into
-  pub plan-ready : (g : Network) → acceptNetwork network ≡ answer g → (p : Plan) → p ≡ planOf (g .remaining - 2) g
-      → (oldV oldX oldY v x y : List ℕ) → let n = g .remaining - 2 in StepRoom n oldV oldX oldY
-      → v ≡ overColumn (planV n g) oldV → x ≡ overColumn (planX n g) oldX → y ≡ overColumn (planY n g) oldY
-      → Planning g p v x y
-  plan-ready g e p q oldV oldX oldY v x y room ev ex ey =
-      let run = accepted-running network g e in
-      let n = g .remaining - 2 in
-      let good = passes-good (planSteps n g) (run .sound) (planDrop n g) (planKept n g)
-      (plan-checked n (run .sound) (omega (arith, run .left))) in
-      let cv = column-written n g (λ t. t .v) oldV v (room .v-room) ev in
-      let cx = column-written n g (λ t. t .x) oldX x (room .x-room) ex in
-      let cy = column-written n g (λ t. t .y) oldY y (room .y-room) ey in
-      record {
-        keeping = rw q (running-keeping run (planKept n g) (good .sized));
-        several = run .left;
-        vertex-room = remaining-few network g e;
-        column-room = record { v-room = cv .0; x-room = cx .0; y-room = cy .0 };
-        chain-is = rw (cv .1, cx .1, cy .1, q) (chain-of-columns n g);
-      }
+-- what a text loads is planned as the text is
+pub plan-loaded : (t chain kept : List ℕ) {l : Loaded} → l ≡ loadedOf (loadNetwork t)
+    → planIn (accepting (loadedAnswer l)) chain kept ≡ planGiven t chain kept
+unfolding planGiven
+plan-loaded t chain kept e = ap (λ a. planIn a chain kept) (accept-loaded t e)
+
+-- the plan's steps stand at the start of the columns that they were written into
+pub plan-ready : {g : Network} → Running g → (p : Plan) → p ≡ keptPlan (g .remaining - 2) g
+    → (oldV oldX oldY v x y : List ℕ) → let n = g .remaining - 2 in StepRoom n oldV oldX oldY
+    → v ≡ overColumn (planV n g) oldV → x ≡ overColumn (planX n g) oldX → y ≡ overColumn (planY n g) oldY
+    → Planning g p v x y
+plan-ready {g} run p q oldV oldX oldY v x y room ev ex ey =
+    let n = g .remaining - 2 in
+    let good = passes-good (planSteps n g) (run .sound) (planDrop n g) (planKept n g)
+    (plan-checked n (run .sound) (omega (arith, run .left))) in
+    let cv = column-written n g (λ t. t .v) oldV v (room .v-room) ev in
+    let cx = column-written n g (λ t. t .x) oldX x (room .x-room) ex in
+    let cy = column-written n g (λ t. t .y) oldY y (room .y-room) ey in
+    record {
+      keeping = rw q (running-keeping run (planKept n g) (good .sized));
+      several = run .left;
+      vertex-room = running-few run;
+      column-room = record { v-room = cv .0; x-room = cx .0; y-room = cy .0 };
+      chain-is = rw (cv .1, cx .1, cy .1, q) (chain-of-columns n g);
+    }

@@ -26,9 +26,13 @@ use Rattle.rules.specs.Plans.{StepRoom}
 
 -- ── check a network ──
 
+-- a network that was loaded, from whatever text, if it is accepted: refusals 6 and 7 behind those met before
+abbrev pub accepting : Answer Network → Answer Network
+accepting a = andThen a (λ g. unless (networkRefusal g) (answer g))
+
 -- the network of an accepted text, or the text's first refusal
 unfoldable pub acceptNetwork : List ℕ → Answer Network
-acceptNetwork t = andThen (loadNetwork t) (λ g. unless (networkRefusal g) (answer g))
+acceptNetwork t = accepting (loadNetwork t)
 
 unfoldable pub acceptanceOf : Answer Network → Acceptance
 acceptanceOf (refused k) = Refused k
@@ -67,9 +71,13 @@ pub record Texts : Type 0 where
 unfoldable pub textsOf : Network → List Bool → Texts
 textsOf g K = record { chain = planChain (g .remaining - 2) g; kept = keptTextOf g K }
 
+-- the plan of an accepted network, or the refusal that was met before
+abbrev pub planOf : Answer Network → Answer Texts
+planOf a = andThen a (λ g. answer (textsOf g (planKept (g .remaining - 2) g)))
+
 -- the plan of a network text, or the text's first refusal
 unfoldable pub planText : List ℕ → Answer Texts
-planText network = andThen (acceptNetwork network) (λ g. answer (textsOf g (planKept (g .remaining - 2) g)))
+planText network = planOf (acceptNetwork network)
 
 -- whether both buffers have room
 unfoldable pub planRoom : List ℕ → List ℕ → Texts → Bool
@@ -79,8 +87,12 @@ planRoom chain kept t = roomIn chain (t .chain) && roomIn kept (t .kept)
 unfoldable pub textsGiven : Network → List Bool → List ℕ → List ℕ → Answer Texts
 textsGiven g K chain kept = given (planRoom chain kept) (answer (textsOf g K))
 
+-- and so the plan of an accepted network, and of a network text
+abbrev pub planIn : Answer Network → List ℕ → List ℕ → Answer Texts
+planIn a chain kept = given (planRoom chain kept) (planOf a)
+
 unfoldable pub planGiven : List ℕ → List ℕ → List ℕ → Answer Texts
-planGiven network chain kept = given (planRoom chain kept) (planText network)
+planGiven network chain kept = planIn (acceptNetwork network) chain kept
 
 unfoldable pub plannedOf : Answer Texts → Planned
 plannedOf (refused k) = planned.Refused k

@@ -1,10 +1,11 @@
--- What is known of a network that is read from its text.
+-- What is known of a network that is loaded, from whatever text.
 use mathlib.Core.Path.{_≡_}
 use Prim.Native.Nat.{_≤_}
 use lib.ListN.{length}
 use Rattle.graph.specs.Sound.{Fresh, Light}
 use Rattle.base.specs.Limits.{fewestVertices, edgeLimit, vertexLimit}
 use Rattle.graph.specs.declared.Network.{Network}
+use Rattle.loading.specs.declared.Loaded.{Loaded}
 
 pub record Known (g : Network) : Type 0 where
   -- its ends are vertices, and every vertex is present
@@ -19,3 +20,7 @@ pub record Known (g : Network) : Type 0 where
   pub edge-room : g .edges ≤ edgeLimit
   -- its column of lower ends is as long as the state's
   pub long : length (g .low) ≡ edgeLimit
+
+-- what the services ask of what was loaded: where nothing is refused, the network is known
+pub record Ready (l : Loaded) : Type 0 where
+  pub known : l .refusal ≡ 0 → Known (l .network)

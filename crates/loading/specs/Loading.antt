@@ -4,7 +4,7 @@ use Prim.Native.Nat.{ℕ, _*_}
 use lib.Dec.{ltb}
 use lib.ListN.{replicate}
 use lib.IntN.{ℤ, pos}
-use Rattle.base.specs.Answer.{Answer, refused, answer, andThen, over}
+use Rattle.base.specs.Answer.{Answer, refused, answer, andThen, over, unless}
 use Rattle.network_text.specs.Text.{Meaning, readNetwork}
 use Rattle.base.specs.Fold.{tabulate}
 use Rattle.base.specs.Limits.{edgeLimit, vertexLimit}
@@ -49,3 +49,7 @@ noNetwork = stateOf 0 0 noEnds noEnds noCosts
 unfoldable pub loadedOf : Answer Network → Loaded
 loadedOf (refused k) = record { refusal = k; network = noNetwork }
 loadedOf (answer g) = record { refusal = 0; network = g }
+
+-- what was loaded: the network, or the refusal
+unfoldable pub loadedAnswer : Loaded → Answer Network
+loadedAnswer l = unless (l .refusal) (answer (l .network))

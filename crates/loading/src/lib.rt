@@ -17,9 +17,11 @@ ghost use Rattle.base.specs.Limits.{vertexLimit};
 ghost use Rattle.loading.specs.Loading.{stateOf, noEnds, noCosts, loadNetwork, noNetwork, loadedOf};
 
 mod list;
+mod state;
 
 pub use list::LoadedList;
 pub use list::load_list;
+pub use state::state_of;
 
 // A refusal's number and no network, or 0 and the network.
 pub struct Loaded {
@@ -66,7 +68,7 @@ pub fn nothing() -> Network
 }
 
 // A refusal's number and no network.
-fn refuse(refusal: u8) -> Loaded
+pub fn refuse(refusal: u8) -> Loaded
     ensures { λ r. ⌜ r ≡ loadedOf (refused refusal) ⌝ }
 {
     let network = nothing();

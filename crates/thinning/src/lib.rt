@@ -1,4 +1,4 @@
-// The services: check a network, check a chain, plan.
+// The services: check a network, check a chain, plan. Those over a network that was loaded serve every kind of text.
 mod chain;
 mod checker;
 mod kept;
@@ -6,5 +6,7 @@ mod network;
 mod planner;
 
 pub use checker::check_chain;
+pub use network::check_loaded;
 pub use network::check_network;
 pub use planner::plan;
+pub use planner::plan_loaded;

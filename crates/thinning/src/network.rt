@@ -5,12 +5,12 @@ use graph::Network;
 use incidence::four_each;
 use loading::Loaded;
 use loading::load;
-use loading::nothing;
+use loading::refuse;
 ghost use mathlib.Core.Path.{_≡_};
 ghost use Rattle.graph.specs.Cut.{networkRefusal};
-ghost use Rattle.loading.specs.Known.{Known};
-ghost use Rattle.loading.specs.Loading.{loadedOf};
-ghost use Rattle.claim.specs.Services.{acceptNetwork, acceptanceOf};
+ghost use Rattle.loading.specs.Known.{Known, Ready};
+ghost use Rattle.loading.specs.Loading.{loadedOf, loadedAnswer};
+ghost use Rattle.claim.specs.Services.{accepting, acceptNetwork, acceptanceOf};
 use base::CUT;
 use base::DEGREE;
 
@@ -28,32 +28,39 @@ fn network_refusal(network: Network) -> u8
     0
 }
 
-// The network of an accepted text, or the text's first refusal and no network.
-pub fn accept(text: &[u8]) -> Loaded
-    ensures { λ r. ⌜ r ≡ loadedOf (acceptNetwork (now (text .entry))) ⌝ }
+// What was loaded, if it is accepted: its own refusal, then 6, then 7, with no network, or the network.
+pub fn accept(loaded: Loaded) -> Loaded
+    requires { ⌜ Ready loaded ⌝ }
+    ensures { λ r. ⌜ r ≡ loadedOf (accepting (loadedAnswer loaded)) ⌝ }
 {
-    let loaded = load(text);
     let refusal = loaded.refusal;
     if 0 < refusal {
-        return loaded;
+        return refuse(refusal);
     }
     let network = loaded.network;
     let refusal = network_refusal(network);
     if 0 < refusal {
-        let network = nothing();
-        return Loaded { refusal, network };
+        return refuse(refusal);
     }
     loaded
+}
+
+// Checks a network that was loaded, from whatever text: its own refusal, then 6, then 7, or accepted.
+pub fn check_loaded(loaded: Loaded) -> Acceptance
+    requires { ⌜ Ready loaded ⌝ }
+    ensures { λ r. ⌜ r ≡ acceptanceOf (accepting (loadedAnswer loaded)) ⌝ }
+{
+    let accepted = accept(loaded);
+    let refusal = accepted.refusal;
+    if 0 < refusal {
+        return Acceptance::Refused(refusal);
+    }
+    Acceptance::Accepted
 }
 
 // Checks a network text: refusals 1 to 5 as the text meets them, then 6, then 7, or accepted.
 pub fn check_network(text: &[u8]) -> Acceptance
     ensures { λ r. ⌜ r ≡ acceptanceOf (acceptNetwork (now (text .entry))) ⌝ }
 {
-    let accepted = accept(text);
-    let refusal = accepted.refusal;
-    if 0 < refusal {
-        return Acceptance::Refused(refusal);
-    }
-    Acceptance::Accepted
+    check_loaded(load(text))
 }

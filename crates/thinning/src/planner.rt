@@ -9,12 +9,17 @@ use chain_text::put_chain;
 use claim::Planned;
 use graph::Network;
 use kept_text::kept_length;
+use loading::Loaded;
+use loading::load;
 use rules::Plan;
 use rules::plan_steps;
 ghost use mathlib.Core.Path.{_≡_};
 ghost use Prim.Native.Nat.{_-_};
 ghost use Rattle.base.specs.Answer.{filled};
-ghost use Rattle.claim.specs.Services.{plannedOf, textsGiven, planReply, plannedChain, plannedKept, Planning};
+ghost use Rattle.loading.specs.Known.{Ready};
+ghost use Rattle.loading.specs.Loading.{loadedAnswer};
+ghost use Rattle.claim.specs.Services.{accepting, textsGiven, planIn, plannedOf, planReply, plannedChain};
+ghost use Rattle.claim.specs.Services.{plannedKept, Planning};
 
 // Writes the texts of a plan whose steps stand in columns, if both buffers have room.
 fn hand_over(
@@ -58,16 +63,20 @@ fn hand_over(
     }
 }
 
-// Plans a network text: writes the chain text and the kept text, or
-// gives the network's refusal, or 13 and writes nothing.
-pub fn plan(network: &[u8], chain: &mut [u8], kept: &mut [u8]) -> Planned
-    ensures reply { λ r. ⌜ r ≡ planReply (now (network .entry)) (now (chain .entry)) (now (kept .entry)) ⌝ }
+// Plans a network that was loaded, from whatever text: writes the chain text and
+// the kept text, or gives the network's refusal, or 13 and writes nothing.
+pub fn plan_loaded(loaded: Loaded, chain: &mut [u8], kept: &mut [u8]) -> Planned
+    requires { ⌜ Ready loaded ⌝ }
+    ensures reply { λ r. ⌜ r ≡
+        plannedOf (planIn (accepting (loadedAnswer loaded)) (now (chain .entry)) (now (kept .entry))) ⌝ }
     ensures chain { λ r. ⌜ now (chain .exit) ≡
-        plannedChain (now (network .entry)) (now (chain .entry)) (now (kept .entry)) ⌝ }
+        filled (λ t. t .chain) (planIn (accepting (loadedAnswer loaded)) (now (chain .entry)) (now (kept .entry)))
+        (now (chain .entry)) ⌝ }
     ensures kept { λ r. ⌜ now (kept .exit) ≡
-        plannedKept (now (network .entry)) (now (chain .entry)) (now (kept .entry)) ⌝ }
+        filled (λ t. t .kept) (planIn (accepting (loadedAnswer loaded)) (now (chain .entry)) (now (kept .entry)))
+        (now (kept .entry)) ⌝ }
 {
-    let accepted = accept(network);
+    let accepted = accept(loaded);
     let refusal = accepted.refusal;
     if 0 < refusal {
         return Planned::Refused(refusal);
@@ -78,4 +87,16 @@ pub fn plan(network: &[u8], chain: &mut [u8], kept: &mut [u8]) -> Planned
     let mut y = [0u16; STEP_LIMIT];
     let plan = plan_steps(state, &mut v, &mut x, &mut y);
     hand_over(state, plan, &v, &x, &y, chain, kept)
+}
+
+// Plans a network text: writes the chain text and the kept text, or
+// gives the network's refusal, or 13 and writes nothing.
+pub fn plan(network: &[u8], chain: &mut [u8], kept: &mut [u8]) -> Planned
+    ensures reply { λ r. ⌜ r ≡ planReply (now (network .entry)) (now (chain .entry)) (now (kept .entry)) ⌝ }
+    ensures chain { λ r. ⌜ now (chain .exit) ≡
+        plannedChain (now (network .entry)) (now (chain .entry)) (now (kept .entry)) ⌝ }
+    ensures kept { λ r. ⌜ now (kept .exit) ≡
+        plannedKept (now (network .entry)) (now (chain .entry)) (now (kept .entry)) ⌝ }
+{
+    plan_loaded(load(network), chain, kept)
 }
