@@ -11,7 +11,7 @@ use Rattle.base.specs.Answer.{Answer, refused, answer, andThen, refusalOf}
 use Rattle.base.specs.Limits.{fewestVertices, verticesOk}
 use Rattle.base.specs.Refusals.{FORM, VERTICES}
 use Rattle.base.proofs.Bools.{no-answer}
-use Rattle.base.proofs.Numbered.{Numbered, answered, refused-by, then-numbered}
+use Rattle.base.proofs.Numbered.{Numbered, answered, refused-by, then-meeting}
 use Rattle.frame.specs.Table.{STEP, DROPPED, lineLength}
 use Rattle.frame.specs.Line.{isLine, fieldsOf, readLine}
 use Rattle.frame.specs.Kinds.{stepOf, droppedOf}
@@ -54,7 +54,7 @@ steps-numbered (suc k) t =
   where
     go : (b : Bool) (a : Answer (List Step)) → Numbered FORM a
         → Numbered FORM (cond b (andThen a (λ ss. answer (stepOf (fieldsOf STEP t) ∷ ss))) (refused FORM))
-    go true a h = then-numbered a _ h (λ ss. answered (stepOf (fieldsOf STEP t) ∷ ss))
+    go true a h = then-meeting a _ h (λ ss. answered (stepOf (fieldsOf STEP t) ∷ ss))
     go false a h = refused-by FORM (omega arith) (omega arith)
 
 -- as many steps are read as are due

@@ -12,7 +12,7 @@ use Rattle.base.specs.Answer.{Answer, refused, answer, andThen, unless}
 use Rattle.base.specs.Fold.{bit}
 use Rattle.network_text.specs.Text.{Meaning, readNetwork}
 use Rattle.base.specs.Refusals.{DEGREE, CUT}
-use Rattle.base.proofs.Numbered.{Numbered, answered, unless-numbered, then-numbered, numbered-up}
+use Rattle.base.proofs.Numbered.{Numbered, answered, unless-numbered, then-meeting, numbered-up}
 use Rattle.loading.specs.Known.{Known}
 use Rattle.loading.specs.Loading.{networkOf, loadNetwork, loadedOf, loadedAnswer}
 use Rattle.loading.specs.declared.Loaded.{Loaded}
@@ -55,7 +55,7 @@ module _ (a : Answer Network) where
   -- its refusals are those met before, and 6 and 7
   pub accepting-numbered : {top : ℕ} → CUT ≤ top → Numbered top a → Numbered top (accepting a)
   accepting-numbered h n =
-      then-numbered a _ n
+      then-meeting a _ n
       (λ g. unless-numbered (networkRefusal g) _ (omega (arith, network-number g)) (answered g))
 
   -- what is accepted was loaded, and is not refused

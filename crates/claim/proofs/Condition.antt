@@ -38,7 +38,7 @@ use Rattle.rules.specs.Running.{Running}
 use Rattle.claim.specs.Verdicts.{checkChain}
 use Rattle.claim.specs.Plans.{planChain}
 use Rattle.claim.specs.Services.{acceptNetwork, keptTextOf, keptIn, checkChainText, chainReply, keptAfter}
-use Rattle.claim.specs.Services.{Texts, textsOf, planOf, planGiven}
+use Rattle.claim.specs.Services.{Texts, textsOf, planOf, planText, planGiven}
 use Rattle.claim.specs.Condition.{CrossesEach, Accepted, reserving, Ruled, Rising, Owed, Passes, PlanWrites}
 use Rattle.claim.specs.Condition.{Claim}
 use Rattle.claim.proofs.ChainTexts.{bytes-meant, meaning-passes}
@@ -261,6 +261,11 @@ module _ {t : List ℕ} {g : Network} (a : Accepted t g) where
   due-passes : checkChainText t (due .chain) ≡ answer (due .kept)
   unfolding due textsOf keptIn
   due-passes = chain-kept t (due .chain) g (accepts a) (planKept (g .remaining - 2) g) (plan-keeps (running a))
+
+  -- the plan's chain passes, and its check gives the plan's kept text
+  pub plan-passes : (p : Texts) → planText t ≡ answer p → checkChainText t (p .chain) ≡ answer (p .kept)
+  unfolding planText
+  plan-passes p e = let q : due ≡ p = cc (due-is) in rw q at due-passes
 
   plan-writes : (chain lent : List ℕ) → PlanWrites t due chain lent
   unfolding planGiven

@@ -2,12 +2,14 @@
 -- Assumes nothing.
 use mathlib.Core.Path.{_≡_, refl, _∙_, ap}
 use mathlib.Core.Bool.{Bool, true, false, cond, _&&_}
-use mathlib.Core.List.{List, [], _∷_, _++_, map}
-use Prim.Native.Nat.{ℕ, zero, suc, _+_, _*_, _-_, _≤_, _<_}
+use mathlib.Core.List.{List, [], _∷_, _++_, map, append-nil}
+use Prim.Native.Nat.{ℕ, zero, suc, _+_, _*_, _-_, _^_, _≤_, _<_}
 use native.Mathlib.Omega.{arith}
-use lib.Dec.{ltb}
+use lib.Dec.{ltb, lit<}
 use lib.ListN.{length, length-append, List·getD-eq-default}
+use lib.Seq.{drop-at}
 use lib.IntN.{ℤ}
+use lib.Signed.{mag}
 use borrow.Author.Tests.{ltb-true, lt-ltb, le-leb}
 use Rattle.base.specs.Answer.{answer, andThen, over}
 use Rattle.base.specs.Fold.{pick, among}
@@ -15,14 +17,17 @@ use Rattle.base.specs.Lengths.{longestKept}
 use Rattle.base.specs.Limits.{verticesOk, edgeLimit}
 use Rattle.base.proofs.Bools.{same-test, and-both, and-left, and-right}
 use Rattle.base.proofs.Picks.{pick-few, pick-kept, pick-beyond, pick-among, among-pick}
-use Rattle.frame.specs.Table.{KEPT, COSTS, bytesOf, padded, total, placeOf, startOf, lineLength}
-use Rattle.frame.specs.Line.{lineOf}
+use Rattle.digits.proofs.Signs.{unsigned-lt}
+use Rattle.frame.specs.Table.{KEPT, COSTS, bytesOf, padded, total, placeOf, startOf, digitsOf, widths, lineLength}
+use Rattle.frame.specs.Line.{lineOf, Fits}
 use Rattle.frame.specs.Frames.{listed, linesOf}
-use Rattle.frame.specs.Kinds.{ofCosts}
-use Rattle.frame.proofs.Lines.{length-line}
+use Rattle.frame.specs.Kinds.{ofCosts, keptDigits, unreservedDigits}
+use Rattle.frame.specs.declared.kinds.Costs.{Costs}
+use Rattle.frame.proofs.Lines.{length-line, fields-found}
+use Rattle.frame.proofs.Named.{costs-found}
 use Rattle.frame.proofs.Writing.{Written, written-last, written-front}
 use Rattle.list_text.specs.Text.{frameOf, risingFrom, listIn, readList, listText, writeList}
-use Rattle.kept_text.specs.Text.{isKept, keptEdges, keptText, keptLength, ListsKept}
+use Rattle.kept_text.specs.Text.{isKept, keptEdges, keptText, costsIn, keptLength, ListsKept}
 use Rattle.list_text.proofs.OneToOne.{one-to-one}
 use Rattle.list_text.proofs.Texts.{length-list}
 
@@ -117,3 +122,21 @@ costs-left es kept unreserved old out at n e h =
     let costs = ofCosts (record { kept = kept; unreserved = unreserved }) in
     written-last (keptText es kept unreserved) old out at COSTS costs
     (written-front (listText es) (lineOf COSTS costs) old out at n e h)
+
+-- the costs are found again in the last line, where they have room in their fields
+pub costs-read : (es : List ℕ) (kept unreserved : ℤ) → 2 * mag kept < 16 ^ keptDigits
+    → 2 * mag unreserved < 16 ^ unreservedDigits
+    → costsIn (keptText es kept unreserved) ≡ record { kept = kept; unreserved = unreserved }
+unfolding costsIn keptText
+costs-read es kept unreserved h l =
+    let c : Costs = record { kept = kept; unreserved = unreserved } in
+    let line = lineOf COSTS (ofCosts c) in
+    let place : length (listText es) ≡ length (listText es ++ line) - lineLength COSTS =
+    omega (arith, length-append (listText es) line, length-line COSTS (ofCosts c)) in
+    rw (drop-at (listText es) line (length (listText es ++ line) - lineLength COSTS) place, ← append-nil line)
+    (rw (fields-found COSTS (ofCosts c) [] fit) (costs-found c h l))
+  where
+    fit : Fits COSTS (ofCosts (record { kept = kept; unreserved = unreserved }))
+    fit =
+        unfold Fits widths bytesOf padded keptDigits unreservedDigits digitsOf in
+        (unsigned-lt keptDigits kept h, (unsigned-lt unreservedDigits unreserved l, (lit< tt, (lit< tt, (lit< tt, tt)))))

@@ -2,16 +2,17 @@
 use mathlib.Core.Path.{_≡_}
 use mathlib.Core.Bool.{Bool, true, false, _&&_}
 use mathlib.Core.List.{List, _++_}
-use Prim.Native.Nat.{ℕ, _+_, _*_}
+use Prim.Native.Nat.{ℕ, _+_, _*_, _-_}
 use lib.Dec.{ltb}
-use lib.ListN.{getD}
+use lib.ListN.{length, drop, getD}
 use lib.IntN.{ℤ}
 use Rattle.base.specs.Answer.{answer}
 use Rattle.base.specs.Fold.{pick, among}
 use Rattle.base.specs.Limits.{verticesOk}
 use Rattle.frame.specs.Table.{KEPT, COSTS, REFUSAL, lineLength}
-use Rattle.frame.specs.Line.{lineOf}
-use Rattle.frame.specs.Kinds.{ofCosts, ofRefusal}
+use Rattle.frame.specs.Line.{fieldsOf, lineOf}
+use Rattle.frame.specs.Kinds.{costsOf, ofCosts, ofRefusal}
+use Rattle.frame.specs.declared.kinds.Costs.{Costs}
 use Rattle.list_text.specs.Text.{readList, listText}
 
 -- whether an edge is kept, by its mark; one beyond the marks isn't
@@ -25,6 +26,10 @@ keptEdges n marks = pick n 0 (isKept marks)
 -- the kept edges, rising, and then their cost and that of all edges but the reserved one
 unfoldable pub keptText : List ℕ → ℤ → ℤ → List ℕ
 keptText es kept unreserved = listText es ++ lineOf COSTS (ofCosts (record { kept = kept; unreserved = unreserved }))
+
+-- the costs in the frame 06 that a kept text ends with
+unfoldable pub costsIn : List ℕ → Costs
+costsIn t = costsOf (fieldsOf COSTS (drop (length t - lineLength COSTS) t))
 
 -- how many bytes the kept text of so many edges has
 unfoldable pub keptLength : ℕ → ℕ

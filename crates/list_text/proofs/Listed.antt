@@ -12,7 +12,7 @@ use Rattle.base.specs.Refusals.{FORM, VERTICES, UNLISTED}
 use Rattle.base.specs.Words.{AllBelow}
 use Rattle.base.proofs.Bools.{no-answer}
 use Rattle.base.proofs.LimitLaws.{vertices-within}
-use Rattle.base.proofs.Numbered.{Numbered, refused-by, then-numbered}
+use Rattle.base.proofs.Numbered.{Numbered, refused-by, then-meeting}
 use Rattle.base.proofs.Numbered.{answered as answered-by}
 use Rattle.base.proofs.Words.{below-at}
 use Rattle.frame.specs.Table.{KEPT}
@@ -86,7 +86,7 @@ rising-numbered n least broken = refused-by FORM (omega arith) (omega arith)
 rising-numbered n least (frame f fs) =
     let e = keptOf f .edge in
     go (mayFollow n least e)
-    (then-numbered (risingFrom n (suc e) fs) _ (rising-numbered n (suc e) fs) (λ es. answered-by (e ∷ es)))
+    (then-meeting (risingFrom n (suc e) fs) _ (rising-numbered n (suc e) fs) (λ es. answered-by (e ∷ es)))
   where
     go : (b : Bool) {a : Answer Meaning} → Numbered UNLISTED a → Numbered UNLISTED (cond b a (refused UNLISTED))
     go true w = w

@@ -15,7 +15,7 @@ use Rattle.base.specs.Refusals.{UNLISTED}
 use Rattle.base.specs.Limits.{edgeLimit, vertexLimit}
 use Rattle.list_text.specs.Text.{readList}
 use Rattle.list_text.proofs.Listed.{list-few, list-below-at, read-numbered}
-use Rattle.base.proofs.Numbered.{Numbered, answered, then-numbered, numbered-up}
+use Rattle.base.proofs.Numbered.{Numbered, answered, then-meeting, numbered-up}
 use Rattle.graph.specs.declared.Network.{Network}
 use Rattle.loading.specs.Known.{Known}
 use Rattle.loading.specs.Loading.{loadNetwork}
@@ -115,8 +115,8 @@ module _ (t l : List ℕ) where
 pub list-numbered : (t l : List ℕ) → Numbered UNLISTED (loadList t l)
 unfolding loadList
 list-numbered t l =
-    then-numbered (loadNetwork t) _ (numbered-up (omega arith) (load-numbered t))
-    (λ g. then-numbered (readList (g .vertices) l) _ (read-numbered (g .vertices) l) (λ es. answered _))
+    then-meeting (loadNetwork t) _ (numbered-up (omega arith) (load-numbered t))
+    (λ g. then-meeting (readList (g .vertices) l) _ (read-numbered (g .vertices) l) (λ es. answered _))
 
 module _ (a : Answer (Network × List Bool)) {top : ℕ} (n : Numbered top a)
     {r : LoadedList} (e : r ≡ loadedListOf a) where

@@ -7,7 +7,7 @@ use Rattle.base.specs.Answer.{Answer, refused, answer, andThen}
 use Rattle.base.specs.Refusals.{COST}
 use Rattle.base.proofs.Answers.{unless-refused, unless-next, unless-answered}
 use Rattle.base.proofs.Bools.{no-answer}
-use Rattle.base.proofs.Numbered.{Numbered, answered, unless-numbered, then-numbered}
+use Rattle.base.proofs.Numbered.{Numbered, answered, unless-numbered, then-meeting}
 use Rattle.graph.specs.declared.Network.{Network}
 use Rattle.network_text.specs.Text.{Meaning, Valid, readNetwork}
 use Rattle.network_text.proofs.Head.{read-numbered}
@@ -46,7 +46,7 @@ loaded-known t g e = let w = loaded-read t g e in rw (← w .2) (known-of (read-
 
 pub load-numbered : (t : List ℕ) → Numbered COST (loadNetwork t)
 unfolding loadNetwork
-load-numbered t = then-numbered (readNetwork t) _ (read-numbered t) (λ m. answered (networkOf m))
+load-numbered t = then-meeting (readNetwork t) _ (read-numbered t) (λ m. answered (networkOf m))
 
 -- ── what was loaded, by its refusal ──
 module _ (l : Loaded) where

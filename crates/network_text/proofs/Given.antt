@@ -15,7 +15,7 @@ use Rattle.base.specs.Refusals.{SHORT}
 use Rattle.base.proofs.Answers.{given-refused, given-fits, given-short}
 use Rattle.base.proofs.Held.{Starts, held-starts}
 use Rattle.base.specs.Limits.{vertexLimit}
-use Rattle.network_text.specs.Text.{Meaning, Valid, readNetwork, readReply, roomFor, readGiven}
+use Rattle.network_text.specs.Text.{Meaning, meant, Valid, readNetwork, readReply, roomFor, readGiven}
 use Rattle.network_text.specs.Columns.{Columns, NetworkRead, ReadInto}
 use Rattle.network_text.specs.declared.network.ReadNetwork.{ReadNetwork}
 use Rattle.network_text.specs.declared.network.ReadNetwork.the-variants.{Read, Refused}
@@ -65,6 +65,12 @@ stored {a} {low₀} {high₀} {cost₀} {n = n} {r = r} valid q x =
       high = held-starts (λ m. m .high) high₀ (p .1) (x .highs) (omega (arith, v .high-count));
       cost = held-starts (λ m. m .cost) cost₀ (p .1) (x .costs) (omega (arith, v .cost-count));
     }
+
+-- the meaning, made of the starts of the columns
+pub stored-meant : {a : Answer Meaning} {lows highs : List ℕ} {costs : List ℤ} {n r : ℕ}
+    (w : Stored a lows highs costs n r)
+    → meant n r (take (2 * n) lows) (take (2 * n) highs) (take (2 * n) costs) ≡ w .meaning
+stored-meant w = rw (w .low .first, w .high .first, w .cost .first, w .vertices, w .reserved)
 
 -- what buffers hold that the columns are copied to
 module _ (low high : List ℕ) (cost : List ℤ) where

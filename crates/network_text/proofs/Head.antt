@@ -10,7 +10,7 @@ use lib.ListN.{drop}
 use Rattle.base.specs.Answer.{Answer, refused, answer, andThen, unless}
 use Rattle.base.specs.Refusals.{FORM, COST}
 use Rattle.base.proofs.Answers.{then-refused, then-answer}
-use Rattle.base.proofs.Numbered.{Numbered, answered, refused-by, unless-numbered, then-numbered}
+use Rattle.base.proofs.Numbered.{Numbered, answered, refused-by, unless-numbered, then-meeting}
 use Rattle.frame.specs.Table.{HEAD, lineLength}
 use Rattle.frame.specs.Line.{placed, isLine, fieldsOf, lineAt, readLine}
 use Rattle.frame.specs.Kinds.{headOf}
@@ -26,7 +26,7 @@ checked-numbered n place finished = answered []
 checked-numbered n place interrupted = refused-by FORM (omega arith) (omega arith)
 checked-numbered n place (next e es) =
     unless-numbered (edgeRefusal n place e) _ (edge-small n place e)
-    (then-numbered (checked n (suc place) es) _ (checked-numbered n (suc place) es) (λ later. answered (e ∷ later)))
+    (then-meeting (checked n (suc place) es) _ (checked-numbered n (suc place) es) (λ later. answered (e ∷ later)))
 
 pub read-numbered : (t : List ℕ) → Numbered COST (readNetwork t)
 unfolding readNetwork
@@ -36,7 +36,7 @@ read-numbered t =
     let es = edgesOf (2 * n) (drop (lineLength HEAD) t) in
     go (isLine HEAD t) _
     (unless-numbered (headRefusal n (h .reserved)) _ (head-small n (h .reserved))
-    (then-numbered (checked n 0 es) _ (checked-numbered n 0 es) (λ later. answered (meaningOf n (h .reserved) later))))
+    (then-meeting (checked n 0 es) _ (checked-numbered n 0 es) (λ later. answered (meaningOf n (h .reserved) later))))
   where
     go : (b : Bool) (a : Answer Meaning) → Numbered COST a → Numbered COST (cond b a (refused FORM))
     go true a h = h

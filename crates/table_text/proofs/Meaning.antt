@@ -3,7 +3,8 @@
 use mathlib.Core.Path.{_≡_, refl, sym, _∙_, ap}
 use mathlib.Core.Bool.{Bool, true, false, cond, _&&_}
 use mathlib.Core.List.{List, [], _∷_, _++_, map}
-use Prim.Native.Nat.{ℕ, zero, suc, _+_, _*_, _≤_}
+use mathlib.Core.Logic.{_⊎_, inl, inr}
+use Prim.Native.Nat.{ℕ, zero, suc, _+_, _*_, _≤_, _<_}
 use native.Mathlib.Omega.{arith}
 use native.Mathlib.Nat.{zero-add, add-zero, add-suc, suc-add}
 use lib.Dec.{eqb, leb, ltb}
@@ -13,7 +14,7 @@ use Rattle.base.specs.Limits.{costOk}
 use Rattle.base.specs.Refusals.{FORM, ENDS, COST, WEIGHT, TOTAL}
 use Rattle.base.proofs.Answers.{cond-answered}
 use Rattle.base.proofs.Bools.{no-answer, eqb-is}
-use Rattle.base.proofs.Numbered.{Numbered, answered, refused-by, unless-numbered, then-numbered}
+use Rattle.base.proofs.Numbered.{Meeting, answered, refused-as, unless-meeting, cond-meeting, then-meeting}
 use Rattle.frame.specs.Table.{TABLE-HEAD, SPAN, lineLength}
 use Rattle.frame.specs.Line.{Placed, placed, isLine, fieldsOf, lineOf, lineAt, readLine, Fits}
 use Rattle.frame.specs.Kinds.{tableHeadOf, ofTableHead, spanOf, ofSpan}
@@ -212,63 +213,88 @@ stands t m x =
       written = passed-written (m .vertices) (m .reserved) es (p .fine .network) a k;
     }
 
--- ── the refusals of a table text are those up to 16 ──
-span-small : (n l h : ℕ) (s : Span) → spanRefusal n l h s ≤ TOTAL
-unfolding spanRefusal
-span-small n l h s =
-    go (ltb (s .lower) (s .higher) && ltb (s .higher) n) (weightOk (s .weight) && above l h s) (costOk (s .cost))
+-- the table of a network that is read
+pub expanded-table : (t : List ℕ) (n : Meaning) → readExpanded t ≡ answer n
+    → (m : Table) × (readTable t ≡ answer m) × (standsFor m ≡ n)
+unfolding readExpanded andThen
+expanded-table t n x = go (readTable t) refl x
   where
-    go : (a b d : Bool) → cond a (cond b (cond d 0 COST) WEIGHT) ENDS ≤ TOTAL
-    go true true true = omega arith
-    go true true false = omega arith
-    go true false d = omega arith
-    go false b d = omega arith
+    go : (a : Answer Table) → readTable t ≡ a → andThen a (λ m. answer (standsFor m)) ≡ answer n
+        → (m : Table) × (readTable t ≡ answer m) × (standsFor m ≡ n)
+    go (refused k) q y = no-answer (cc)
+    go (answer m) q y = (m, q, cc)
 
-spans-numbered : (n l h : ℕ) (fs : Frames) → Numbered TOTAL (spansIn n l h fs)
+pub expanded-valid : (t : List ℕ) (n : Meaning) → readExpanded t ≡ answer n → Valid n
+expanded-valid t n x =
+    let w = expanded-table t n x in
+    rw (w .2) at (stands t (w .0) (w .1) .sound)
+
+-- ── the refusals of a table text ──
+
+-- the form, the head's and a span's numbers that a network text has too, 15 and 16
+abbrev pub OfTable : ℕ → Type 0
+OfTable k = ((1 ≤ k) × (k ≤ 5)) ⊎ ((k ≡ 15) ⊎ (k ≡ 16))
+
+span-of-table : (n l h : ℕ) (s : Span) → 0 < spanRefusal n l h s → OfTable (spanRefusal n l h s)
+unfolding spanRefusal
+span-of-table n l h s x =
+    go (ltb (s .lower) (s .higher) && ltb (s .higher) n) (weightOk (s .weight) && above l h s) (costOk (s .cost)) x
+  where
+    go : (a b d : Bool) → 0 < cond a (cond b (cond d 0 COST) WEIGHT) ENDS
+        → OfTable (cond a (cond b (cond d 0 COST) WEIGHT) ENDS)
+    go true true true x = absurd (omega arith)
+    go true true false x = inl (omega arith, omega arith)
+    go true false d x = inr (inl refl)
+    go false b d x = inl (omega arith, omega arith)
+
+spans-meeting : (n l h : ℕ) (fs : Frames) → Meeting OfTable (spansIn n l h fs)
 unfolding spansIn
-spans-numbered n l h done = answered []
-spans-numbered n l h broken = refused-by FORM (omega arith) (omega arith)
-spans-numbered n l h (frame f fs) =
+spans-meeting n l h done = answered []
+spans-meeting n l h broken = refused-as FORM (inl (omega arith, omega arith))
+spans-meeting n l h (frame f fs) =
     let s = spanOf f in
-    unless-numbered (spanRefusal n l h s) _ (span-small n l h s)
-    (then-numbered (spansIn n (s .lower) (s .higher) fs) _ (spans-numbered n (s .lower) (s .higher) fs)
+    unless-meeting (spanRefusal n l h s) _ (span-of-table n l h s)
+    (then-meeting (spansIn n (s .lower) (s .higher) fs) _ (spans-meeting n (s .lower) (s .higher) fs)
     (λ later. answered (s ∷ later)))
 
-totalled-numbered : (n r : ℕ) (ss : List Span) → Numbered TOTAL (totalled n r ss)
+totalled-meeting : (n r : ℕ) (ss : List Span) → Meeting OfTable (totalled n r ss)
 unfolding totalled
-totalled-numbered n r ss = go (eqb (weights ss) (2 * n))
-  where
-    go : (b : Bool)
-        → Numbered {M = Table} TOTAL (cond b (answer (record { vertices = n; reserved = r; spans = ss })) (refused TOTAL))
-    go true = answered _
-    go false = refused-by TOTAL (omega arith) (omega arith)
+totalled-meeting n r ss = cond-meeting (eqb (weights ss) (2 * n)) _ TOTAL (inr (inr refl)) (answered _)
 
-count-small : (n k : ℕ) → countRefusal n k ≤ TOTAL
+count-of-table : (n k : ℕ) → 0 < countRefusal n k → OfTable (countRefusal n k)
 unfolding countRefusal
-count-small n k = go (leb k (2 * n))
+count-of-table n k x = go (leb k (2 * n)) x
   where
-    go : (b : Bool) → cond b 0 TOTAL ≤ TOTAL
-    go true = omega arith
-    go false = omega arith
+    go : (b : Bool) → 0 < cond b 0 TOTAL → OfTable (cond b 0 TOTAL)
+    go true x = absurd (omega arith)
+    go false x = inr (inr refl)
 
-head-numbered : (t : List ℕ) → Numbered TOTAL (readTableHead t)
-unfolding readTableHead tableHeadIn andThen
-head-numbered t = go (readLine TABLE-HEAD t 0) refl
-  where
-    go : (a : Answer Placed) → a ≡ readLine TABLE-HEAD t 0 → Numbered TOTAL (andThen a tableHeadIn)
-    go (refused k) q = refused-by k (omega (arith, only-form TABLE-HEAD t 0 k q)) (omega (arith, only-form TABLE-HEAD t 0 k q))
-    go (answer (placed f next)) q =
-        let h = tableHeadOf f in
-        unless-numbered (headRefusal (h .vertices) (h .reserved)) _ (omega (arith, head-small (h .vertices) (h .reserved)))
-        (unless-numbered (countRefusal (h .vertices) (h .spans)) _ (count-small (h .vertices) (h .spans))
-        (answered (found h next)))
+head-in-meeting : (p : Placed) → Meeting OfTable (tableHeadIn p)
+unfolding tableHeadIn
+head-in-meeting (placed f next) =
+    let h = tableHeadOf f in
+    unless-meeting (headRefusal (h .vertices) (h .reserved)) _
+    (λ x. inl (omega arith, omega (arith, head-small (h .vertices) (h .reserved))))
+    (unless-meeting (countRefusal (h .vertices) (h .spans)) _ (count-of-table (h .vertices) (h .spans))
+    (answered (found h next)))
 
-behind-numbered : (t : List ℕ) (f : Found TableHead) → Numbered TOTAL (tableBehind t f)
+head-meeting : (t : List ℕ) → Meeting OfTable (readTableHead t)
+unfolding readTableHead
+head-meeting t =
+    then-meeting (readLine TABLE-HEAD t 0) tableHeadIn
+    (record { number = λ k e. let z = only-form TABLE-HEAD t 0 k (sym e) in inl (omega arith, omega arith) })
+    head-in-meeting
+
+behind-meeting : (t : List ℕ) (f : Found TableHead) → Meeting OfTable (tableBehind t f)
 unfolding tableBehind
-behind-numbered t (found h first) =
-    then-numbered (spansIn (h .vertices) 0 0 (framesOf (replicate (h .spans) SPAN) (drop first t))) _
-    (spans-numbered (h .vertices) 0 0 _) (totalled-numbered (h .vertices) (h .reserved))
+behind-meeting t (found h first) =
+    then-meeting (spansIn (h .vertices) 0 0 (framesOf (replicate (h .spans) SPAN) (drop first t))) _
+    (spans-meeting (h .vertices) 0 0 _) (totalled-meeting (h .vertices) (h .reserved))
 
-pub table-numbered : (t : List ℕ) → Numbered TOTAL (readTable t)
+pub table-meeting : (t : List ℕ) → Meeting OfTable (readTable t)
 unfolding readTable
-table-numbered t = then-numbered (readTableHead t) (tableBehind t) (head-numbered t) (behind-numbered t)
+table-meeting t = then-meeting (readTableHead t) (tableBehind t) (head-meeting t) (behind-meeting t)
+
+pub expanded-meeting : (t : List ℕ) → Meeting OfTable (readExpanded t)
+unfolding readExpanded
+expanded-meeting t = then-meeting (readTable t) _ (table-meeting t) (λ m. answered (standsFor m))
