@@ -1,2 +1,3 @@
 pub mod Same
 pub mod Costs
+pub mod Condition

@@ -88,8 +88,7 @@ stood t s e = go (readExpanded t) refl e
 pub table-written : (t : List ℕ) (m : Table) → readTable t ≡ answer m → (s : List ℕ) × (tableNetwork t ≡ answer s)
 unfolding readExpanded tableNetwork
 table-written t m e =
-    let w = stands t m e .written in
-    (
+    let w = stands t m e .written in (
       networkText _ _ _,
       then-answer _ writeNetwork (standsFor m) (then-answer (readTable t) _ m e) ∙ w,
     )

@@ -9,8 +9,9 @@ use lib.IntN.{ℤ, pos, _+ℤ_, _*ℤ_}
 use lib.Signed.{_≤ℤ_}
 use Rattle.base.specs.Answer.{refused, answer, andThen}
 use Rattle.frame.specs.declared.kinds.Span.{Span}
+use Rattle.graph.specs.Network.{keptCost, allButReserved}
 use Rattle.graph.specs.declared.Network.{Network}
-use Rattle.kept_text.specs.Text.{costsIn}
+use Rattle.kept_text.specs.Text.{keptEdges, keptText, costsIn}
 use Rattle.table_text.specs.Text.{Table, readTable}
 use Rattle.claim.specs.declared.Planned.the-variants as plan
 use Rattle.claim.specs.Services.{acceptNetwork, checkChainText, Texts, planText, planReply, plannedChain, plannedKept}
@@ -37,9 +38,10 @@ pub record PlannedAs (t : List ℕ) (g : Network) (p : Texts) : Type 0 where
   -- the network is accepted, and the plan's chain passes over it and gives the plan's kept text
   pub accepted : Accepted network g
   pub passes : checkChainText network (p .chain) ≡ answer (p .kept)
-  -- the chain keeps the rules, and the edges that it keeps are as owed
+  -- the chain keeps the rules, the kept text is that of the edges that it keeps, and they are as owed
   pub marks : List Bool
   pub ruled : Ruled g (p .chain) marks
+  pub kept-is : p .kept ≡ keptText (keptEdges (g .edges) marks) (keptCost g marks) (allButReserved g)
   pub owed : Owed g marks
 
 -- ── the claim: each part with the words of document 02 that it says ──
