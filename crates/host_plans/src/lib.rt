@@ -1,7 +1,11 @@
-// The library for C, plans: network check, planner and chain check, with 0 or a refusal's number as result.
+// The library for C, plans: network check, planner, chain check and tables, with 0 or a refusal's number as result.
 mod networks;
 mod plans;
+mod solver;
 
 pub use networks::thinning_check_network;
 pub use plans::thinning_check_chain;
 pub use plans::thinning_plan;
+pub use solver::thinning_check_table;
+pub use solver::thinning_plan_table;
+pub use solver::thinning_table_network;
