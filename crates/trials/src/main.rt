@@ -1,4 +1,4 @@
-// Runs the services on the texts of document 01's district examples, and on a wrong text or chain for each refusal.
+// Runs the services on the texts of document 01's district examples, and on a wrong text for each refusal.
 use audit::Audited;
 use audit::audit_list;
 use base::LONGEST_KEPT;
@@ -7,6 +7,8 @@ use claim::Acceptance;
 use libc::STDOUT_FILENO;
 use thinning::check_chain;
 use thinning::check_network;
+
+mod solver;
 
 fn say(words: &[u8]) {
     io::write_all(STDOUT_FILENO, words);
@@ -187,4 +189,5 @@ fn main() {
             0200030002000300000004\n0200040000000200000009\n0200050001000300000003\n0200060000000300000006\n\
             0200070001000200000002\n",
     );
+    solver::run();
 }
