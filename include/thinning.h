@@ -10,8 +10,8 @@
  * as are said, an out-number's to one; what a function writes overlaps nothing else that it is given; during the call
  * nobody else writes what it is given, or reads what it writes.
  *
- * thinning_plan, thinning_plan_table and thinning_check_chain go as deep as there are vertices. The command ./stack
- * measures what they take: at 256 vertices thinning_plan 1.57 MB of stack and thinning_check_chain 1.45 MB.
+ * thinning_plan, thinning_plan_table and thinning_check_chain go as deep as there are vertices: at 256 vertices the two
+ * planners take 1.59 MB of stack and the chain check 1.46 MB, measured by the command ./stack.
  *
  * The refusals:
  *    1  the form: a broken line, a wrong kind or length, a missing frame, bytes left over; columns of a wrong length

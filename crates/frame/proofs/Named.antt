@@ -17,6 +17,7 @@ use Rattle.frame.specs.Kinds.{ofRefusal, tableHeadOf, ofTableHead, spanC
 use Rattle.frame.specs.declared.line.Fields.{Fields}
 use Rattle.frame.specs.declared.kinds.Edge.{Edge}
 use Rattle.frame.specs.declared.kinds.Costs.{Costs}
+use Rattle.frame.specs.declared.kinds.Span.{Span}
 use Rattle.digits.proofs.Signs.{unsigned-signed, signed-unsigned}
 use Rattle.frame.proofs.Rows.{length-bytes}
 
@@ -95,6 +96,10 @@ costs-back f x =
 pub edge-found : (e : Edge) → 2 * mag (e .cost) < 16 ^ costDigits → edgeOf (ofEdge e) ≡ e
 unfolding costDigits digitsOf bytesOf padded
 edge-found e h = rw (signed-unsigned costDigits (e .cost) (lit< tt) h)
+
+pub span-found : (s : Span) → 2 * mag (s .cost) < 16 ^ spanCostDigits → spanOf (ofSpan s) ≡ s
+unfolding spanCostDigits digitsOf bytesOf padded
+span-found s h = rw (signed-unsigned spanCostDigits (s .cost) (lit< tt) h)
 
 pub costs-found : (c : Costs) → 2 * mag (c .kept) < 16 ^ keptDigits → 2 * mag (c .unreserved) < 16 ^ unreservedDigits
     → costsOf (ofCosts c) ≡ c

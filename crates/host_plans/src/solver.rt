@@ -37,9 +37,11 @@ pub extern "C" fn thinning_plan_table(
     ensures kept { λ r. ⌜ now (kept .exit) ≡ filled (λ t. t .kept)
         (tablePlanGiven (now (table .entry)) (now (chain .entry)) (now (kept .entry))) (now (kept .entry)) ⌝ }
     ensures chain_written { λ r. ⌜ now («chain_written» .exit) ≡ numberGiven (λ t. length (t .chain))
-        (tablePlanGiven (now (table .entry)) (now (chain .entry)) (now (kept .entry))) (now («chain_written» .entry)) ⌝ }
+        (tablePlanGiven (now (table .entry)) (now (chain .entry)) (now (kept .entry)))
+        (now («chain_written» .entry)) ⌝ }
     ensures kept_written { λ r. ⌜ now («kept_written» .exit) ≡ numberGiven (λ t. length (t .kept))
-        (tablePlanGiven (now (table .entry)) (now (chain .entry)) (now (kept .entry))) (now («kept_written» .entry)) ⌝ }
+        (tablePlanGiven (now (table .entry)) (now (chain .entry)) (now (kept .entry)))
+        (now («kept_written» .entry)) ⌝ }
 {
     match plan_table(table, chain, kept) {
         Planned::Refused(number) => number as u32,

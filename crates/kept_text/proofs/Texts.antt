@@ -138,5 +138,7 @@ costs-read es kept unreserved h l =
   where
     fit : Fits COSTS (ofCosts (record { kept = kept; unreserved = unreserved }))
     fit =
-        unfold Fits widths bytesOf padded keptDigits unreservedDigits digitsOf in
-        (unsigned-lt keptDigits kept h, (unsigned-lt unreservedDigits unreserved l, (lit< tt, (lit< tt, (lit< tt, tt)))))
+        unfold Fits widths bytesOf padded keptDigits unreservedDigits digitsOf in (
+          unsigned-lt keptDigits kept h,
+          (unsigned-lt unreservedDigits unreserved l, (lit< tt, (lit< tt, (lit< tt, tt)))),
+        )

@@ -277,7 +277,7 @@ any-reserved t m r x h =
         (s, read-written other s (rw (head-free (m .vertices) (m .reserved) r p h, q)))
 
 -- ── edges that have passed are written ──
-head-unrefused : (n r : ℕ) → HeadPassed n r → headRefusal n r ≡ 0
+pub head-unrefused : (n r : ℕ) → HeadPassed n r → headRefusal n r ≡ 0
 unfolding headRefusal verticesOk
 head-unrefused n r h =
     rw (le-leb fewestVertices n (h .many), le-leb n vertexLimit (h .few), lt-ltb r (2 * n) (h .inside))

@@ -1,7 +1,6 @@
 -- What is known while the edges of a network text are read into columns, by whichever reader.
 -- Assumes nothing.
 use mathlib.Core.Path.{_≡_, refl, sym, _∙_}
-use mathlib.Core.Bool.{Bool, true, false, cond}
 use mathlib.Core.List.{List, [], _∷_, _++_, map}
 use Prim.Native.Nat.{ℕ, zero, suc, _+_, _*_, _≤_, _<_}
 use native.Mathlib.Omega.{arith}
@@ -11,8 +10,8 @@ use Rattle.base.specs.Answer.{Answer, refused, answer, andThen, unless, over}
 use Rattle.base.specs.Limits.{vertexLimit}
 use Rattle.base.specs.Refusals.{FORM}
 use Rattle.base.proofs.Bools.{no-answer}
-use Rattle.frame.specs.Table.{EDGE, lineLength}
-use Rattle.frame.specs.Line.{Placed, placed, isLine, fieldsOf, lineAt, readLine}
+use Rattle.frame.specs.Table.{EDGE}
+use Rattle.frame.specs.Line.{Placed, placed, readLine}
 use Rattle.frame.specs.Kinds.{edgeOf}
 use Rattle.frame.specs.Frames.{framesOf}
 use Rattle.frame.specs.declared.line.Fields.{Fields}

@@ -1,7 +1,7 @@
 -- A column into which one element is laid so many times, from a place on.
 -- Assumes nothing.
 use mathlib.Core.Path.{_≡_, refl, sym, _∙_, ap}
-use mathlib.Core.List.{List, _++_, append-assoc}
+use mathlib.Core.List.{List, _++_}
 use Prim.Native.Nat.{ℕ, suc, _+_, _-_, _≤_, _<_}
 use native.Mathlib.Omega.{arith}
 use lib.ListN.{length, take, drop, getD, set, replicate, length-append, length-set, length-replicate, getD-replicate}
@@ -23,7 +23,12 @@ module _ {A : Type 0} where
     pub laying-none : Laying from k a old old from
     laying-none =
         let none : from - from ≡ 0 = omega arith in
-        record { behind = omega arith; within = omega arith; size = refl; holds = rw none (paste-zero old from (replicate k a)) }
+        record {
+          behind = omega arith;
+          within = omega arith;
+          size = refl;
+          holds = rw none (paste-zero old from (replicate k a));
+        }
 
     module _ {column : List A} {i : ℕ} (w : Laying from k a old column i) where
       pub laying-next : i < from + k → from + k ≤ length old → Laying from k a old (set column i a) (i + 1)

@@ -3,5 +3,5 @@ pub mod Laying
 pub mod Expanding
 pub mod Reading
 pub mod Meaning
-pub mod OneText
+pub mod OneToOne
 pub mod Examples

@@ -16,9 +16,9 @@ use Rattle.base.proofs.Answers.{cond-answered}
 use Rattle.base.proofs.Bools.{no-answer, eqb-is}
 use Rattle.base.proofs.Numbered.{Meeting, answered, refused-as, unless-meeting, cond-meeting, then-meeting}
 use Rattle.frame.specs.Table.{TABLE-HEAD, SPAN, lineLength}
-use Rattle.frame.specs.Line.{Placed, placed, isLine, fieldsOf, lineOf, lineAt, readLine, Fits}
+use Rattle.frame.specs.Line.{Placed, placed, fieldsOf, readLine}
 use Rattle.frame.specs.Kinds.{tableHeadOf, ofTableHead, spanOf, ofSpan}
-use Rattle.frame.specs.Frames.{Frames, done, broken, frame, framesOf, listed, linesOf, AllFit}
+use Rattle.frame.specs.Frames.{Frames, done, broken, frame, framesOf, listed, AllFit}
 use Rattle.frame.specs.declared.line.Fields.{Fields}
 use Rattle.frame.specs.declared.kinds.TableHead.{TableHead}
 use Rattle.frame.specs.declared.kinds.Span.{Span}
@@ -28,29 +28,26 @@ use Rattle.frame.proofs.Runs.{Next, next-read, only-form}
 use Rattle.frame.proofs.Whole.{whole, fit-count}
 use Rattle.frame.proofs.Named.{table-head-back, span-back}
 use Rattle.network_frames.specs.Frames.{headRefusal, Found, found}
-use Rattle.network_frames.proofs.Passed.{EdgePassed, head-small}
-use Rattle.network_text.specs.Text.{Meaning, Valid, meaningOf, networkText, writeNetwork}
+use Rattle.network_frames.proofs.Passed.{head-small}
+use Rattle.network_text.specs.Text.{Meaning, Valid, networkText, writeNetwork}
 use Rattle.network_text.proofs.Whole.{AllPassed, valid}
 use Rattle.network_text.proofs.OneToOne.{passed-written}
 use Rattle.table_text.specs.Frames.{countRefusal, weightOk, above, spanRefusal, tableHeadIn, readTableHead}
-use Rattle.table_text.specs.Text.{Table, spansIn, weights, totalled, tableBehind, readTable, copies, expanded}
+use Rattle.table_text.specs.Text.{Table, SpanFine, SpansFine, spansIn, weights, totalled, tableBehind, readTable, copies, expanded}
 use Rattle.table_text.specs.Text.{standsFor, readExpanded, tableText}
-use Rattle.table_text.proofs.Passed.{SpanPassed, span-passed, TableHeadPassed, table-head-fine}
+use Rattle.table_text.proofs.Passed.{span-passed, TableHeadPassed, table-head-fine}
 use Rattle.table_text.proofs.Expanding.{length-copies, length-expanded}
 
 -- ── spans that have passed ──
-abbrev pub AllSpans : ℕ → List Span → Type 0
-AllSpans n [] = Unit
-AllSpans n (s ∷ ss) = SpanPassed n s × AllSpans n ss
 
 -- spans that are read from frames: all frames are there, and each span has passed
-record Spans (n : ℕ) (fs : Frames) (ss : List Span) : Type 0 where
+record Spans (n l h : ℕ) (fs : Frames) (ss : List Span) : Type 0 where
   frames : List Fields
   all : fs ≡ listed frames
   are : ss ≡ map spanOf frames
-  passed : AllSpans n ss
+  passed : SpansFine n l h ss
 
-spans : (n l h : ℕ) (fs : Frames) (ss : List Span) → spansIn n l h fs ≡ answer ss → Spans n fs ss
+spans : (n l h : ℕ) (fs : Frames) (ss : List Span) → spansIn n l h fs ≡ answer ss → Spans n l h fs ss
 unfolding spansIn listed unless andThen
 spans n l h done [] x = record { frames = []; all = refl; are = refl; passed = tt }
 spans n l h done (s ∷ ss) x = no-answer (cc)
@@ -62,8 +59,8 @@ spans n l h (frame f fs) ss x =
     go : let s = spanOf f in
         (k : ℕ) → spanRefusal n l h s ≡ k → (a : Answer (List Span)) → spansIn n (s .lower) (s .higher) fs ≡ a
         → (ss : List Span)
-        → ((later : List Span) → spansIn n (s .lower) (s .higher) fs ≡ answer later → Spans n fs later)
-        → unless k (andThen a (λ later. answer (s ∷ later))) ≡ answer ss → Spans n (frame f fs) ss
+        → ((later : List Span) → spansIn n (s .lower) (s .higher) fs ≡ answer later → Spans n (s .lower) (s .higher) fs later)
+        → unless k (andThen a (λ later. answer (s ∷ later))) ≡ answer ss → Spans n l h (frame f fs) ss
     go (suc k) p a q ss i x = no-answer (cc)
     go zero p (refused j) q ss i x = no-answer (cc)
     go zero p (answer later) q [] i x = no-answer (cc)
@@ -81,7 +78,7 @@ spans n l h (frame f fs) ss x =
 -- ── a text that is read ──
 pub record Parts (t : List ℕ) (m : Table) : Type 0 where
   pub fine : TableHeadPassed (m .vertices) (m .reserved) (length (m .spans))
-  pub passed : AllSpans (m .vertices) (m .spans)
+  pub passed : SpansFine (m .vertices) 0 0 (m .spans)
   pub total : weights (m .spans) ≡ 2 * m .vertices
   pub text-is : t ≡ tableText m
 
@@ -122,7 +119,7 @@ module _ (t : List ℕ) {h : TableHead} {first : ℕ} (x : answer (found h first
     count : length ss ≡ h .spans
     text-is : t ≡ tableText (record { vertices = h .vertices; reserved = h .reserved; spans = ss })
 
-  lines : (ss : List Span) → Spans (h .vertices) frames-due ss → Lines ss
+  lines : (ss : List Span) → Spans (h .vertices) 0 0 frames-due ss → Lines ss
   unfolding tableText
   lines ss w =
       let head = head-line t x in
@@ -130,8 +127,8 @@ module _ (t : List ℕ) {h : TableHead} {first : ℕ} (x : answer (found h first
       let next = head .2 in
       let spelt = whole (replicate (h .spans) SPAN) (drop first t) (w .frames) (w .all) in
       let count : length ss ≡ h .spans =
-      ap length (w .are) ∙ length-map (w .frames) spanOf ∙ sym (fit-count (replicate (h .spans) SPAN) (w .frames) (spelt .fit))
-      ∙ length-replicate (h .spans) SPAN in
+      ap length (w .are) ∙ length-map (w .frames) spanOf
+      ∙ sym (fit-count (replicate (h .spans) SPAN) (w .frames) (spelt .fit)) ∙ length-replicate (h .spans) SPAN in
       let named : ofTableHead h ≡ fieldsOf TABLE-HEAD t =
       ap ofTableHead (head .1) ∙ table-head-back f (next .fits) ∙ next .fields in
       let back : map ofSpan ss ≡ w .frames =
@@ -178,20 +175,20 @@ passed-append n k [] es p q = rw add-zero at q
 passed-append n k (d ∷ ds) es p q =
     (p .0, passed-append n (suc k) ds es (p .1) (rw (add-suc, ← suc-add) at q))
 
-copies-passed : (n w k : ℕ) (s : Span) → SpanPassed n s → AllPassed n k (copies w k s)
+copies-passed : (n l h w k : ℕ) (s : Span) → SpanFine n l h s → AllPassed n k (copies w k s)
 unfolding copies
-copies-passed n zero k s p = tt
-copies-passed n (suc w) k s p = (
+copies-passed n l h zero k s p = tt
+copies-passed n l h (suc w) k s p = (
   record { numbered = refl; rising = p .rising; inside = p .inside; limited = p .limited },
-  copies-passed n w (suc k) s p,
+  copies-passed n l h w (suc k) s p,
 )
 
-expanded-passed : (n k : ℕ) (ss : List Span) → AllSpans n ss → AllPassed n k (expanded k ss)
+expanded-passed : (n l h k : ℕ) (ss : List Span) → SpansFine n l h ss → AllPassed n k (expanded k ss)
 unfolding expanded
-expanded-passed n k [] p = tt
-expanded-passed n k (s ∷ ss) p =
-    passed-append n k (copies (s .weight) k s) (expanded (k + s .weight) ss) (copies-passed n (s .weight) k s (p .0))
-    (rw (length-copies (s .weight) k s) (expanded-passed n (k + s .weight) ss (p .1)))
+expanded-passed n l h k [] p = tt
+expanded-passed n l h k (s ∷ ss) p =
+    passed-append n k (copies (s .weight) k s) (expanded (k + s .weight) ss) (copies-passed n l h (s .weight) k s (p .0))
+    (rw (length-copies (s .weight) k s) (expanded-passed n (s .lower) (s .higher) (k + s .weight) ss (p .1)))
 
 -- ── the network that a table stands for ──
 
@@ -206,7 +203,7 @@ unfolding standsFor
 stands t m x =
     let p = parts t m x in
     let es = expanded 0 (m .spans) in
-    let a = expanded-passed (m .vertices) 0 (m .spans) (p .passed) in
+    let a = expanded-passed (m .vertices) 0 0 0 (m .spans) (p .passed) in
     let k : length es ≡ 2 * m .vertices = length-expanded 0 (m .spans) ∙ p .total in
     record {
       sound = valid (m .vertices) (m .reserved) es (p .fine .network) a k;

@@ -1,18 +1,16 @@
 -- What is known while the spans of a table text are read and their edges laid into columns.
 -- Assumes nothing.
-use mathlib.Core.Path.{_≡_, refl, sym, _∙_, ap}
-use mathlib.Core.Bool.{Bool, true, false, cond}
+use mathlib.Core.Path.{_≡_, refl, sym, _∙_}
 use mathlib.Core.List.{List, [], _∷_, _++_, map}
 use mathlib.Core.Logic.{_≢_}
 use Prim.Native.Nat.{ℕ, zero, suc, _+_, _*_, _≤_, _<_}
 use native.Mathlib.Omega.{arith}
-use lib.Dec.{eqb}
 use lib.ListN.{length, drop, getD, replicate, length-map, length-replicate, getD-replicate}
 use lib.IntN.{ℤ}
 use borrow.Author.Tests.{eq-eqb, ne-eqb}
 use Rattle.base.specs.Answer.{Answer, refused, answer, andThen, unless, over}
 use Rattle.base.specs.Refusals.{FORM, TOTAL}
-use Rattle.base.proofs.Answers.{then-refused, then-answer, unless-refused, unless-next}
+use Rattle.base.proofs.Answers.{then-refused, then-answer}
 use Rattle.base.proofs.Bools.{no-answer}
 use Rattle.base.proofs.Held.{Storing, storing-none}
 use Rattle.base.proofs.Taking.{first, behind, behind-none, behind-next, behind-refused, behind-all}
@@ -26,12 +24,11 @@ use Rattle.frame.specs.declared.kinds.Span.{Span}
 use Rattle.frame.specs.declared.kinds.Edge.{Edge}
 use Rattle.frame.proofs.Runs.{next-read, only-form, run-next, run-broken, run-left, run-done}
 use Rattle.network_frames.specs.Frames.{found}
-use Rattle.network_text.specs.Text.{Meaning, meaningOf}
 use Rattle.table_text.specs.Frames.{mostWeight, spanRefusal, readTableHead, spanIn, readSpan}
-use Rattle.table_text.specs.Text.{Table, spansIn, weights, totalled, tableBehind, readTable, expanded, standsFor}
+use Rattle.table_text.specs.Text.{Table, SpanFine, spansIn, weights, totalled, tableBehind, readTable, expanded, standsFor}
 use Rattle.table_text.specs.Text.{readExpanded}
 use Rattle.table_text.specs.Columns.{Roomy, Layable, laid}
-use Rattle.table_text.proofs.Passed.{SpanPassed, span-passed, TableHeadPassed, table-head-fine}
+use Rattle.table_text.proofs.Passed.{span-passed, TableHeadPassed, table-head-fine}
 use Rattle.table_text.proofs.Laying.{storing-laid}
 use Rattle.table_text.proofs.Expanding.{length-expanded, weights-more, part-more}
 
@@ -43,7 +40,7 @@ left k text at i = framesOf (drop i (replicate k SPAN)) (drop at text)
 
 -- what a span decides that is read: it has passed, and the next one is due behind it
 pub record SpanFound (n k : ℕ) (text : List ℕ) (at i l h : ℕ) (s : Span) (next : ℕ) : Type 0 where
-  pub passed : SpanPassed n s
+  pub passed : SpanFine n l h s
   pub goes : spansIn n l h (left k text at i) ≡ first s (spansIn n (s .lower) (s .higher) (left k text next (i + 1)))
 
 module _ (n k : ℕ) (text : List ℕ) (at i l h : ℕ) (x : i < k) where
@@ -171,12 +168,12 @@ module _ {text : List ℕ} {n r k : ℕ} {low₀ high₀ : List ℕ} {cost₀ : 
           let few = edges-few x in
           let v = w .fine .network .few in
           record {
-            few = p .few;
+            few = p .most;
             lower-fits = omega (arith, p .rising, p .inside);
             higher-fits = omega (arith, p .inside);
-            low-room = omega (arith, p .few, room .low-room, w .lows .size);
-            high-room = omega (arith, p .few, room .high-room, w .highs .size);
-            cost-room = omega (arith, p .few, room .cost-room, w .costs .size);
+            low-room = omega (arith, p .most, room .low-room, w .lows .size);
+            high-room = omega (arith, p .most, room .high-room, w .highs .size);
+            cost-room = omega (arith, p .most, room .cost-room, w .costs .size);
           }
 
       pub reading-next : {low′ high′ : List ℕ} {cost′ : List ℤ} → low′ ≡ laid edges (s .weight) (s .lower) low
@@ -185,7 +182,7 @@ module _ {text : List ℕ} {n r k : ℕ} {low₀ high₀ : List ℕ} {cost₀ : 
           (s .higher)
       reading-next p q r =
           let f = reading-layable in
-          let few = this .passed .few in
+          let few = this .passed .most in
           record {
             fine = w .fine;
             passed = w .passed ++ (s ∷ []);

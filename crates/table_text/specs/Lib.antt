@@ -1,4 +1,4 @@
 pub mod Frames
 pub mod Text
 pub mod Columns
-pub mod OneText
+pub mod OneToOne

@@ -1,10 +1,13 @@
 -- Table texts: what a text means, and the network that it stands for.
-use mathlib.Core.Bool.{cond}
+use mathlib.Core.Path.{_≡_}
+use mathlib.Core.Logic.{_⊎_}
+use mathlib.Core.Bool.{true, cond}
 use mathlib.Core.List.{List, [], _∷_, _++_, map}
-use Prim.Native.Nat.{ℕ, zero, suc, _+_, _*_}
+use Prim.Native.Nat.{ℕ, zero, suc, _+_, _*_, _≤_, _<_}
 use lib.Dec.{eqb}
 use lib.ListN.{length, drop, replicate}
 use Rattle.base.specs.Answer.{Answer, refused, answer, andThen, unless}
+use Rattle.base.specs.Limits.{fewestVertices, vertexLimit, costOk}
 use Rattle.base.specs.Refusals.{FORM, TOTAL}
 use Rattle.frame.specs.Table.{TABLE-HEAD, SPAN}
 use Rattle.frame.specs.Line.{lineOf}
@@ -15,7 +18,7 @@ use Rattle.frame.specs.declared.kinds.Span.{Span}
 use Rattle.frame.specs.declared.kinds.Edge.{Edge}
 use Rattle.network_frames.specs.Frames.{Found, found}
 use Rattle.network_text.specs.Text.{Meaning, meaningOf}
-use Rattle.table_text.specs.Frames.{spanRefusal, readTableHead}
+use Rattle.table_text.specs.Frames.{leastWeight, mostWeight, spanRefusal, readTableHead}
 
 -- the meaning of a table text: how many vertices, the reserved edge, and the spans in their order
 pub record Table : Type 0 where
@@ -75,6 +78,29 @@ standsFor m = meaningOf (m .vertices) (m .reserved) (expanded 0 (m .spans))
 -- the network that a table text stands for, or the text's first refusal
 unfoldable pub readExpanded : List ℕ → Answer Meaning
 readExpanded t = andThen (readTable t) (λ m. answer (standsFor m))
+
+-- ── the tables that have a text, in document 02's words ──
+
+-- a span behind one with the ends l and h
+pub record SpanFine (n l h : ℕ) (s : Span) : Type 0 where
+  pub rising : s .lower < s .higher
+  pub inside : s .higher < n
+  pub least : leastWeight ≤ s .weight
+  pub most : s .weight ≤ mostWeight
+  pub higher-pair : (l < s .lower) ⊎ ((l ≡ s .lower) × (h < s .higher))
+  pub limited : costOk (s .cost) ≡ true
+
+abbrev pub SpansFine : ℕ → ℕ → ℕ → List Span → Type 0
+SpansFine n l h [] = Unit
+SpansFine n l h (s ∷ ss) = SpanFine n l h s × SpansFine n (s .lower) (s .higher) ss
+
+pub record Fine (m : Table) : Type 0 where
+  pub many : fewestVertices ≤ m .vertices
+  pub few : m .vertices ≤ vertexLimit
+  pub reserved-one : m .reserved < 2 * m .vertices
+  pub count : length (m .spans) ≤ 2 * m .vertices
+  pub each : SpansFine (m .vertices) 0 0 (m .spans)
+  pub total : weights (m .spans) ≡ 2 * m .vertices
 
 -- ── the one text of a table ──
 

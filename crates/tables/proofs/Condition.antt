@@ -16,12 +16,13 @@ use Rattle.kept_text.specs.Text.{costsIn, keptEdges, keptText}
 use Rattle.kept_text.proofs.Texts.{costs-read}
 use Rattle.loading.specs.Loading.{networkOf}
 use Rattle.rules.proofs.Totals.{kept-small, reserved-small}
-use Rattle.table_text.specs.Text.{Table, readTable, standsFor, readExpanded}
+use Rattle.table_text.specs.Text.{Table, readTable, standsFor}
 use Rattle.table_text.proofs.Meaning.{parts, expanded-meeting}
 use Rattle.table_text.proofs.Reading.{expanded-read}
 use Rattle.claim.specs.declared.Planned.the-variants as plan
-use Rattle.claim.specs.Services.{acceptNetwork, Texts, planOf, planText, plannedOf, planReply, plannedChain, plannedKept}
-use Rattle.claim.specs.Condition.{Accepted, Ruled, Owed}
+use Rattle.claim.specs.Services.{acceptNetwork, Texts, planOf, planText, plannedOf, planReply, plannedChain}
+use Rattle.claim.specs.Services.{plannedKept}
+use Rattle.claim.specs.Condition.{Accepted}
 use Rattle.claim.proofs.Condition.{claim, plan-passes}
 use Rattle.claim.proofs.Accepting.{accepted-running}
 use Rattle.tables.specs.Services.{acceptTable, planTable, tablePlanGiven, tableNetwork, loadTable}

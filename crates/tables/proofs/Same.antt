@@ -2,13 +2,13 @@
 use mathlib.Core.Path.{_≡_, refl, sym, _∙_, ap}
 use mathlib.Core.Logic.{⊎-elim}
 use mathlib.Core.List.{List}
-use Prim.Native.Nat.{ℕ, _<_}
+use Prim.Native.Nat.{ℕ}
 use native.Mathlib.Omega.{arith}
 use Rattle.base.specs.Answer.{Answer, refused, answer, andThen}
 use Rattle.base.specs.Refusals.{TOTAL}
 use Rattle.base.proofs.Answers.{then-refused, then-answer}
 use Rattle.base.proofs.Bools.{no-answer}
-use Rattle.base.proofs.Numbered.{Meeting, Numbered, answered, then-meeting, meeting-as}
+use Rattle.base.proofs.Numbered.{Numbered, answered, then-meeting, meeting-as}
 use Rattle.network_text.specs.Text.{Meaning, networkText, readNetwork, writeNetwork}
 use Rattle.network_text.proofs.OneToOne.{read-written}
 use Rattle.loading.specs.Known.{Known, Ready}
@@ -17,7 +17,7 @@ use Rattle.loading.specs.declared.Loaded.{Loaded}
 use Rattle.loading.proofs.Reading.{known-of, answer-ready, loaded-again}
 use Rattle.graph.specs.declared.Network.{Network}
 use Rattle.table_text.specs.Text.{Table, readTable, standsFor, readExpanded}
-use Rattle.table_text.proofs.Meaning.{OfTable, stands, expanded-table, expanded-valid, expanded-meeting}
+use Rattle.table_text.proofs.Meaning.{stands, expanded-table, expanded-valid, expanded-meeting}
 use Rattle.claim.specs.Services.{accepting, acceptNetwork, planOf, planText, planGiven, planIn}
 use Rattle.tables.specs.Services.{loadTable, acceptTable, planTable, tablePlanGiven, tableNetwork}
 

@@ -1,5 +1,5 @@
--- What is owed of tables, over texts, replies and buffers: a table is planned as the network that it stands for, so that
--- condition 3 (crate claim, specs/Condition.antt) holds of it; and the four-thirds bound. For every text, whatever it is.
+-- What is owed of tables, over texts, replies and buffers: a table is planned as the network that it stands for, so
+-- that condition 3 (crate claim, specs/Condition.antt) holds of it; and the four-thirds bound. It holds for every text.
 use mathlib.Core.Bool.{Bool}
 use mathlib.Core.List.{List, [], _∷_}
 use mathlib.Core.Logic.{_↔_, _⊎_}
@@ -76,3 +76,14 @@ pub record TableClaim : Type 0 where
   pub four-thirds : (t : List ℕ) (m : Table) (p : Texts) → readTable t ≡ answer m → planTable t ≡ answer p
       → NoneBelowZero (m .spans)
       → (pos 3 *ℤ costsIn (p .kept) .kept) ≤ℤ (pos 2 *ℤ weightedCost (m .spans))
+
+-- ── wrong programs and definitions that the claim, or a promise by its words, shuts out: each has a must-fail edit ──
+--
+-- lays one edge for a span, whatever its weight      promise of `lay`   weights_not_expanded, crate table_text
+-- numbers edges by weight before span order          `standsFor`        by_weight_before_span_order, crate table_text
+-- gives 15 before 4, or 5 before 15                  `spanRefusal`      weight_before_ends, cost_before_weight
+-- gives the total's 16 before bytes left over        `tableBehind`      total_before_bytes_left_over, crate table_text
+-- overruns columns that hold one network             promise of `lay`   columns_of_one_network, crate table_text
+-- refuses to write what 6 or 7 refuse                `written`          network_judged_before_it_is_written
+-- exchanges the two texts of a plan                  `same-buffers`     buffers_exchanged
+-- claims the bound of costs below zero               `four-thirds`      bound_with_costs_below_zero

@@ -23,6 +23,8 @@ written-fits chain kept a c k h = go (given (planRoom chain kept) a) refl h
         let room = given-room (planRoom chain kept) a t e in
         let m : c ≡ length (t .chain) = cc in
         let n : k ≡ length (t .kept) = cc in
-        let first = leb-true (length (t .chain)) (length chain) (and-left (roomIn chain (t .chain)) (roomIn kept (t .kept)) room) in
-        let second = leb-true (length (t .kept)) (length kept) (and-right (roomIn chain (t .chain)) (roomIn kept (t .kept)) room) in
-        (omega (arith, first), omega (arith, second))
+        let a = roomIn chain (t .chain) in
+        let b = roomIn kept (t .kept) in (
+          omega (arith, leb-true (length (t .chain)) (length chain) (and-left a b room)),
+          omega (arith, leb-true (length (t .kept)) (length kept) (and-right a b room)),
+        )

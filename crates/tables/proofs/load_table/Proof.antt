@@ -1,14 +1,12 @@
 -- `tables::load_table` meets its contract.
-use mathlib.Core.Path.{_≡_, sym, _∙_, ap}
-use Prim.Native.Nat.{_*_, _≤_}
+use mathlib.Core.Path.{sym, _∙_, ap}
 use native.Mathlib.Omega.{arith}
-use lib.ListN.{length, take}
 use lib.Seq.{length-take-le}
 use borrow.Author.Needs.{needs}
 use Rattle.network_text.proofs.Given.{Stored, stored, stored-meant, reply-refused}
 use Rattle.table_text.specs.Text.{readExpanded}
 use Rattle.table_text.proofs.Meaning.{expanded-valid}
-use Rattle.loading.specs.Loading.{networkOf, loadedOf}
+use Rattle.loading.specs.Loading.{loadedOf}
 use Rattle.tables.proofs.Same.{load-refused, load-read}
 use Rattle.tables.proofs.load_table.Statement.{statement}
 use Rattle.tables.proofs.load_table.Tie as tie

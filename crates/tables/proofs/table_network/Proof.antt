@@ -1,14 +1,11 @@
 -- `tables::table_network` meets its contract.
-use mathlib.Core.Path.{_≡_, sym, _∙_, ap}
-use Prim.Native.Nat.{_*_, _≤_}
+use mathlib.Core.Path.{sym}
 use native.Mathlib.Omega.{arith}
-use lib.ListN.{length, take}
 use lib.Seq.{length-take-le}
 use borrow.Author.Needs.{needs}
 use Rattle.network_text.proofs.Given.{Stored, stored, stored-meant, reply-refused}
 use Rattle.table_text.specs.Text.{readExpanded}
 use Rattle.table_text.proofs.Meaning.{expanded-valid}
-use Rattle.base.specs.Answer.{replyOf, after}
 use Rattle.base.proofs.Answers.{refuses}
 use Rattle.tables.proofs.Same.{network-refused, network-read}
 use Rattle.tables.proofs.table_network.Statement.{statement}

@@ -1,12 +1,10 @@
 -- `table_text::frames::read_table_head` meets its contract.
 use mathlib.Core.Path.{_≡_, sym, _∙_}
-use Prim.Native.Nat.{_≤_}
 use borrow.Author.Needs.{needs}
 use Rattle.base.specs.Answer.{answer, andThen}
 use Rattle.frame.specs.Table.{TABLE-HEAD}
 use Rattle.frame.specs.Line.{placed, readLine}
 use Rattle.frame.proofs.Runs.{read-as}
-use Rattle.network_frames.specs.Frames.{headRefusal}
 use Rattle.network_frames.proofs.Passed.{head-passed}
 use Rattle.table_text.specs.Frames.{tableHeadIn, readTableHead}
 use Rattle.base.proofs.Answers.{unless-refused, unless-next}
