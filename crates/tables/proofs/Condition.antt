@@ -18,6 +18,7 @@ use Rattle.loading.specs.Loading.{networkOf}
 use Rattle.rules.proofs.Totals.{kept-small, reserved-small}
 use Rattle.table_text.specs.Text.{Table, readTable, standsFor}
 use Rattle.table_text.proofs.Meaning.{parts, expanded-meeting}
+use Rattle.table_text.proofs.Expanding.{length-expanded, numbered-on}
 use Rattle.table_text.proofs.Reading.{expanded-read}
 use Rattle.claim.specs.declared.Planned.the-variants as plan
 use Rattle.claim.specs.Services.{acceptNetwork, Texts, planOf, planText, plannedOf, planReply, plannedChain}
@@ -158,11 +159,13 @@ four-thirds t m p x e h =
 pub table-claim : TableClaim
 table-claim =
     record {
+      numbered = numbered-on;
+      counted = length-expanded 0;
+      written = table-written;
       same-check = same-check;
       same-plan = same-plan;
       same-buffers = same-buffers;
       same-refusal = same-refusal;
-      written = table-written;
       refusals = λ t k e. expanded-meeting t .number k (refused-of-table t k e);
       accepted = λ t g. (network-of t g, accepted-by t g);
       planned = planned;

@@ -16,7 +16,8 @@ use Rattle.loading.specs.Loading.{networkOf, loadNetwork, loadedOf, loadedAnswe
 use Rattle.loading.specs.declared.Loaded.{Loaded}
 use Rattle.loading.proofs.Reading.{known-of, answer-ready, loaded-again}
 use Rattle.graph.specs.declared.Network.{Network}
-use Rattle.table_text.specs.Text.{Table, readTable, standsFor, readExpanded}
+use Rattle.table_text.specs.Text.{Table, readTable, expanded, standsFor, readExpanded}
+use Rattle.table_text.proofs.Reading.{expanded-read}
 use Rattle.table_text.proofs.Meaning.{stands, expanded-table, expanded-valid, expanded-meeting}
 use Rattle.claim.specs.Services.{accepting, acceptNetwork, planOf, planText, planGiven, planIn}
 use Rattle.tables.specs.Services.{loadTable, acceptTable, planTable, tablePlanGiven, tableNetwork}
@@ -85,13 +86,9 @@ stood t s e = go (readExpanded t) refl e
     go (answer m) q e = record { meaning = m; of-table = q; of-network = read-written m s e }
 
 -- every table that reads has one
-pub table-written : (t : List ℕ) (m : Table) → readTable t ≡ answer m → (s : List ℕ) × (tableNetwork t ≡ answer s)
-unfolding readExpanded tableNetwork
-table-written t m e =
-    let w = stands t m e .written in (
-      networkText _ _ _,
-      then-answer _ writeNetwork (standsFor m) (then-answer (readTable t) _ m e) ∙ w,
-    )
+pub table-written : (t : List ℕ) (m : Table) → readTable t ≡ answer m
+    → tableNetwork t ≡ answer (networkText (m .vertices) (m .reserved) (expanded 0 (m .spans)))
+table-written t m e = network-read t (standsFor m) (expanded-read t e) ∙ stands t m e .written
 
 -- what is refused of it is refused of the table
 pub refused-of-table : (t : List ℕ) (k : ℕ) → tableNetwork t ≡ refused k → readExpanded t ≡ refused k

@@ -1,18 +1,21 @@
 -- What is owed of tables, over texts, replies and buffers: a table is planned as the network that it stands for, so
 -- that condition 3 (crate claim, specs/Condition.antt) holds of it; and the four-thirds bound. It holds for every text.
 use mathlib.Core.Bool.{Bool}
-use mathlib.Core.List.{List, [], _∷_}
+use mathlib.Core.List.{List, [], _∷_, _++_}
 use mathlib.Core.Logic.{_↔_, _⊎_}
 use mathlib.Core.Path.{_≡_}
-use Prim.Native.Nat.{ℕ, _≤_}
+use Prim.Native.Nat.{ℕ, _+_, _≤_, _<_}
+use lib.ListN.{length, getD}
 use lib.IntN.{ℤ, pos, _+ℤ_, _*ℤ_}
 use lib.Signed.{_≤ℤ_}
 use Rattle.base.specs.Answer.{refused, answer, andThen}
+use Rattle.frame.specs.declared.kinds.Edge.{Edge}
 use Rattle.frame.specs.declared.kinds.Span.{Span}
+use Rattle.network_text.specs.Text.{networkText}
 use Rattle.graph.specs.Network.{keptCost, allButReserved}
 use Rattle.graph.specs.declared.Network.{Network}
 use Rattle.kept_text.specs.Text.{keptEdges, keptText, costsIn}
-use Rattle.table_text.specs.Text.{Table, readTable}
+use Rattle.table_text.specs.Text.{Table, weights, readTable, expanded}
 use Rattle.claim.specs.declared.Planned.the-variants as plan
 use Rattle.claim.specs.Services.{acceptNetwork, checkChainText, Texts, planText, planReply, plannedChain, plannedKept}
 use Rattle.claim.specs.Condition.{Accepted, Ruled, Owed}
@@ -47,6 +50,14 @@ pub record PlannedAs (t : List ℕ) (g : Network) (p : Texts) : Type 0 where
 -- ── the claim: each part with the words of document 02 that it says ──
 
 pub record TableClaim : Type 0 where
+  -- 'A weight w becomes w cables of that cost, numbered on in span order': the c-th edge of a span stands
+  -- behind all edges of the spans before it, and the text of these edges is the network text of the table
+  pub numbered : (before : List Span) (s : Span) (behind : List Span) (c : ℕ) (d : Edge) → c < s .weight
+      → getD (expanded 0 (before ++ (s ∷ behind))) (weights before + c) d
+      ≡ record { number = weights before + c; lower = s .lower; higher = s .higher; cost = s .cost }
+  pub counted : (ss : List Span) → length (expanded 0 ss) ≡ weights ss
+  pub written : (t : List ℕ) (m : Table) → readTable t ≡ answer m
+      → tableNetwork t ≡ answer (networkText (m .vertices) (m .reserved) (expanded 0 (m .spans)))
   -- 'The plan of such a table equals the plan of the network it stands for': check and plan of a table
   -- are check and plan of the network text that is written for it, as bytes, refusals included
   pub same-check : (t : List ℕ) → acceptTable t ≡ andThen (tableNetwork t) acceptNetwork
@@ -61,8 +72,7 @@ pub record TableClaim : Type 0 where
       → (tablePlanReply t chain lent ≡ plan.Refused k)
       × (tablePlannedChain t chain lent ≡ chain)
       × (tablePlannedKept t chain lent ≡ lent)
-  -- every table that reads has a network text, and what is refused meets 1 to 5, 15 or 16
-  pub written : (t : List ℕ) (m : Table) → readTable t ≡ answer m → (s : List ℕ) × (tableNetwork t ≡ answer s)
+  -- it meets 1 to 5, 15 or 16 alone
   pub refusals : (t : List ℕ) (k : ℕ) → tableNetwork t ≡ refused k
       → ((1 ≤ k) × (k ≤ 5)) ⊎ ((k ≡ 15) ⊎ (k ≡ 16))
   -- a table is accepted exactly if the network that it stands for is
@@ -80,8 +90,9 @@ pub record TableClaim : Type 0 where
 -- ── wrong programs and definitions that the claim, or a promise by its words, shuts out: each has a must-fail edit ──
 --
 -- lays one edge for a span, whatever its weight      promise of `lay`   weights_not_expanded, crate table_text
--- numbers edges by weight before span order          `standsFor`        by_weight_before_span_order, crate table_text
--- gives 15 before 4, or 5 before 15                  `spanRefusal`      weight_before_ends, cost_before_weight
+-- numbers edges by weight before span order          `written`          by_weight_before_span_order, crate table_text
+-- gives 15 before 4                                  `spanRefusal`      weight_before_ends, crate table_text
+-- lets two spans have the same ends                  `above`            equal_pairs, crate table_text
 -- gives the total's 16 before bytes left over        `tableBehind`      total_before_bytes_left_over, crate table_text
 -- overruns columns that hold one network             promise of `lay`   columns_of_one_network, crate table_text
 -- refuses to write what 6 or 7 refuse                `written`          network_judged_before_it_is_written

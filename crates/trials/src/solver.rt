@@ -119,7 +119,7 @@ fn heads() {
     table(b"five spans, and cable 4 reserved", b"08000200040005\n");
 }
 
-// Spans: their ends, weights, order and costs.
+// Spans: their ends, weights and order.
 fn spans() {
     table(
         b"a span from 1 to 1",
@@ -147,6 +147,10 @@ fn spans() {
         b"span 0-2 behind 1-2",
         b"08000300000002\n09000100020200000003\n09000000020200000001\n",
     );
+}
+
+// Spans: their costs, and which of several faults counts.
+fn costs() {
     table(
         b"a span of cost 1,000,000,001",
         b"08000200000001\n0900000001043b9aca01\n",
@@ -203,6 +207,7 @@ fn totals() {
 pub fn run() {
     heads();
     spans();
+    costs();
     totals();
     let pair = b"08000200000001\n09000000010400000005\n";
     let triangle =
