@@ -1,13 +1,13 @@
 //! The largest networks: 256 vertices, of every family, with a stack of 2 MB.
 //!
-//! All four services, and those on a table of each family, run on a thread with that stack, and
-//! the plan program runs as a process with it, each held to the second program. A call that goes
-//! deeper ends the program.
+//! All four services, and those on a table of each family and on one with the largest total, run
+//! on a thread with that stack, and the plan program runs as a process with it, each held to the
+//! second program. A call that goes deeper ends the program.
 
 use std::fmt::Debug;
 use std::thread;
 
-use second::generate::{self, aimed_chain, Aim, CostStyle, Family, ListStyle, Rng};
+use second::generate::{self, aimed_chain, Aim, CostStyle, Family, ListStyle, Rng, TableAim};
 use second::lengths::LONGEST_NETWORK_TEXT;
 use second::{read_kept, write_chain, Network, Plan, Table};
 
@@ -91,6 +91,7 @@ fn compare_network(family: Family, short: Short, place: usize) -> (String, Compa
             let mut table = generate::table_of(&mut rng, family, VERTICES, style);
             table.reserved = reserved(place, table.reserved);
             table_services(&mut rng, &table)?;
+            largest_total(&mut rng)?;
         }
         program::plan_on_stack(&case.text, PROGRAM_STACK)
     });
@@ -249,5 +250,12 @@ fn table_services(rng: &mut Rng, table: &Table) -> Compared {
     let exact = [plan.chain.len(), plan.kept.len()];
     tables::plan_into(rng, &text, Ok(&plan), exact)?;
     tables::judge(&text, &plan.kept)?;
+    tables::network(rng, &text)
+}
+
+/// Check and network of a table whose doubled weights total as much as they can.
+fn largest_total(rng: &mut Rng) -> Compared {
+    let (text, _) = generate::aimed_table(rng, TableAim::LargeTotal, VERTICES);
+    tables::check(&text)?;
     tables::network(rng, &text)
 }
