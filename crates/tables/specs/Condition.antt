@@ -92,7 +92,6 @@ pub record TableClaim : Type 0 where
 -- lays one edge for a span, whatever its weight      promise of `lay`   weights_not_expanded, crate table_text
 -- numbers edges by weight before span order          `written`          by_weight_before_span_order, crate table_text
 -- gives 15 before 4                                  `spanRefusal`      weight_before_ends, crate table_text
--- lets two spans have the same ends                  `above`            equal_pairs, crate table_text
 -- gives the total's 16 before bytes left over        `tableBehind`      total_before_bytes_left_over, crate table_text
 -- overruns columns that hold one network             promise of `lay`   columns_of_one_network, crate table_text
 -- refuses to write what 6 or 7 refuse                `written`          network_judged_before_it_is_written
