@@ -4,7 +4,7 @@ mod common;
 
 use std::cell::Cell;
 
-use common::rounds;
+use common::{rounds, BREAKING};
 use second::audit::{audit_list, audit_list_by_definition};
 use second::generate::{
     self, Aim, CostStyle, Damage, Family, ListStyle, NetworkAim, Rng, Shapeless,
@@ -173,20 +173,7 @@ fn a_text_is_read_only_if_it_is_the_one_written_for_its_meaning() {
 
 #[test]
 fn damage_that_always_breaks_a_network() {
-    let breaking = [
-        Damage::MissingLastFeed,
-        Damage::CarriageReturn,
-        Damage::OddDigits,
-        Damage::BlankLine,
-        Damage::WrongLength,
-        Damage::RepeatedFrame,
-        Damage::MissingFrame,
-        Damage::JoinedFrames,
-        Damage::CutAnywhere,
-        Damage::Empty,
-        Damage::Repeated,
-    ];
-    for damage in breaking {
+    for damage in BREAKING {
         rounds(60, |rng| {
             let size = generate::size(rng).min(24);
             let text = generate::text(&generate::network(rng, size));

@@ -5,7 +5,7 @@ mod common;
 use std::cell::Cell;
 use std::collections::BTreeSet;
 
-use common::rounds;
+use common::{rounds, BREAKING};
 use second::generate::{self, CostStyle, Damage, Family, Rng, TableAim};
 use second::properties::{judge_table_kept, within_four_thirds};
 use second::{
@@ -204,21 +204,7 @@ fn a_text_is_read_only_if_it_is_the_one_written_for_its_meaning() {
 
 #[test]
 fn damage_that_always_breaks_a_table() {
-    let breaking = [
-        Damage::MissingLastFeed,
-        Damage::CarriageReturn,
-        Damage::OddDigits,
-        Damage::BlankLine,
-        Damage::WrongKind,
-        Damage::WrongLength,
-        Damage::RepeatedFrame,
-        Damage::MissingFrame,
-        Damage::JoinedFrames,
-        Damage::CutAnywhere,
-        Damage::Empty,
-        Damage::Repeated,
-    ];
-    for damage in breaking {
+    for damage in BREAKING.into_iter().chain([Damage::WrongKind]) {
         rounds(60, |rng| {
             let size = generate::size(rng).min(24);
             let text = generate::table_text(&generate::table(rng, size));

@@ -2,7 +2,7 @@
 
 #![allow(dead_code)]
 
-use second::generate::Rng;
+use second::generate::{Damage, Rng};
 use second::{write_network, Edge, Network};
 
 /// The network printed in the rules, three vertices.
@@ -25,6 +25,21 @@ pub const T_PLAN: &str = "\
 050005
 0600000000000000080000000000000010
 ";
+
+/// What makes any text of frames unreadable, or leaves it with other frames than are due.
+pub const BREAKING: [Damage; 11] = [
+    Damage::MissingLastFeed,
+    Damage::CarriageReturn,
+    Damage::OddDigits,
+    Damage::BlankLine,
+    Damage::WrongLength,
+    Damage::RepeatedFrame,
+    Damage::MissingFrame,
+    Damage::JoinedFrames,
+    Damage::CutAnywhere,
+    Damage::Empty,
+    Damage::Repeated,
+];
 
 /// A network's text from its ends and costs.
 pub fn network_text(
