@@ -10,8 +10,9 @@ pub struct Audit {
     pub connected: bool,
     /// How many vertices the listed edges connect to vertex 0, itself included.
     pub reached: usize,
-    /// How many listed edges there are without which the list doesn't connect all
-    /// vertices.
+    /// How many listed edges are critical: the list connects the ends of such an edge, and
+    /// the list without it doesn't. It is a bridge of the listed graph, in whichever part of
+    /// it.
     pub critical: usize,
 }
 
@@ -22,28 +23,31 @@ pub fn audit(network_text: &[u8], list_text: &[u8]) -> Result<Audit, Refusal> {
     Ok(audit_list(&network, &list))
 }
 
-/// Audits a list of edges, rising and below the network's count, by a search for bridges.
+/// Audits a list of edges, rising and below the network's count, by one search for bridges.
 pub fn audit_list(network: &Network, list: &[u16]) -> Audit {
-    let search = BridgeSearch::new(network, list).run();
-    let connected = search.reached == network.vertices;
+    let ports = Ports::new(network, list);
+    let mut search = BridgeSearch::new(&ports, network.vertices);
+    search.enter(0, None);
+    let reached = search.count;
+    for vertex in 1..network.vertices {
+        if search.entered[vertex] == 0 {
+            search.enter(vertex, None);
+        }
+    }
     Audit {
-        connected,
-        reached: search.reached,
-        // Without an edge that connects nothing to begin with, the list doesn't either.
-        critical: if connected {
-            search.bridges
-        } else {
-            list.len()
-        },
+        connected: reached == network.vertices,
+        reached,
+        critical: search.bridges,
     }
 }
 
-/// The same answers from their definition: the list is tried without each of its edges.
+/// The same answers from their definition: each listed edge is looked at by itself.
 pub fn audit_list_by_definition(network: &Network, list: &[u16]) -> Audit {
-    let reached = count_reached(network, list, None);
+    let from_first = connected_to(network, list, 0);
+    let reached = from_first.iter().filter(|&&connected| connected).count();
     let critical = list
         .iter()
-        .filter(|&&edge| count_reached(network, list, Some(edge)) < network.vertices)
+        .filter(|&&number| is_critical(network, list, number))
         .count();
     Audit {
         connected: reached == network.vertices,
@@ -52,79 +56,120 @@ pub fn audit_list_by_definition(network: &Network, list: &[u16]) -> Audit {
     }
 }
 
-/// How many vertices the list, perhaps without one edge, connects to vertex 0.
-fn count_reached(network: &Network, list: &[u16], without: Option<u16>) -> usize {
-    let mut reached = vec![false; network.vertices];
-    reached[0] = true;
+/// Whether the list connects the ends of a listed edge, and the list without it doesn't.
+fn is_critical(network: &Network, list: &[u16], number: u16) -> bool {
+    let (a, b) = ends(network, number);
+    let others = list.iter().copied().filter(|&other| other != number);
+    let others: Vec<u16> = others.collect();
+    connected_to(network, list, a)[b] && !connected_to(network, &others, a)[b]
+}
+
+fn ends(network: &Network, number: u16) -> (usize, usize) {
+    let edge = network.edges[usize::from(number)];
+    (edge.low.into(), edge.high.into())
+}
+
+/// For each vertex, whether the list connects it to the start vertex; that one is.
+fn connected_to(network: &Network, list: &[u16], start: usize) -> Vec<bool> {
+    let mut connected = vec![false; network.vertices];
+    connected[start] = true;
     let mut growing = true;
     while growing {
         growing = false;
-        for &number in list.iter().filter(|&&number| Some(number) != without) {
-            let edge = network.edges[usize::from(number)];
-            let (a, b) = (usize::from(edge.low), usize::from(edge.high));
-            if reached[a] != reached[b] {
-                reached[a] = true;
-                reached[b] = true;
+        for &number in list {
+            let (a, b) = ends(network, number);
+            if connected[a] != connected[b] {
+                connected[a] = true;
+                connected[b] = true;
                 growing = true;
             }
         }
     }
-    reached.iter().filter(|&&is_reached| is_reached).count()
+    connected
 }
 
-/// A depth-first search from vertex 0 that counts vertices and bridges.
-struct BridgeSearch {
-    /// Pairs of edge number and far end at each vertex.
-    ports: Vec<Vec<(u16, usize)>>,
+/// The listed edges at each vertex, sorted into one row by counting.
+struct Ports {
+    /// Where the ports of each vertex start in the row; one entry more is its end.
+    starts: Vec<usize>,
+    /// Pairs of edge number and far end.
+    row: Vec<(u16, u16)>,
+}
+
+impl Ports {
+    fn new(network: &Network, list: &[u16]) -> Self {
+        let mut starts = vec![0; network.vertices + 1];
+        for &number in list {
+            let edge = network.edges[usize::from(number)];
+            starts[usize::from(edge.low)] += 1;
+            starts[usize::from(edge.high)] += 1;
+        }
+        // Where the ports of each vertex end; each port that is put in moves it down.
+        let mut end = 0;
+        for start in &mut starts {
+            end += *start;
+            *start = end;
+        }
+        let mut row = vec![(0, 0); end];
+        for &number in list {
+            let edge = network.edges[usize::from(number)];
+            for (near, far) in [(edge.low, edge.high), (edge.high, edge.low)] {
+                let start = &mut starts[usize::from(near)];
+                *start -= 1;
+                row[*start] = (number, far);
+            }
+        }
+        Ports { starts, row }
+    }
+
+    fn at(&self, vertex: usize) -> &[(u16, u16)] {
+        &self.row[self.starts[vertex]..self.starts[vertex + 1]]
+    }
+}
+
+/// A depth-first search that counts vertices and bridges.
+struct BridgeSearch<'ports> {
+    ports: &'ports Ports,
     /// When each vertex was entered, counted from 1; zero before.
     entered: Vec<usize>,
-    /// The earliest vertex that the search below a vertex touches.
-    lowest: Vec<usize>,
-    reached: usize,
+    /// How many vertices were entered.
+    count: usize,
     bridges: usize,
 }
 
-impl BridgeSearch {
-    fn new(network: &Network, list: &[u16]) -> Self {
-        let mut ports = vec![Vec::new(); network.vertices];
-        for &number in list {
-            let edge = network.edges[usize::from(number)];
-            let (a, b) = (usize::from(edge.low), usize::from(edge.high));
-            ports[a].push((number, b));
-            ports[b].push((number, a));
-        }
+impl<'ports> BridgeSearch<'ports> {
+    fn new(ports: &'ports Ports, vertices: usize) -> Self {
         BridgeSearch {
             ports,
-            entered: vec![0; network.vertices],
-            lowest: vec![0; network.vertices],
-            reached: 0,
+            entered: vec![0; vertices],
+            count: 0,
             bridges: 0,
         }
     }
 
-    fn run(mut self) -> Self {
-        self.enter(0, None);
-        self
-    }
-
-    /// Enters a vertex by an edge and searches on from there. The depth is at most the
-    /// count of vertices.
-    fn enter(&mut self, vertex: usize, by: Option<u16>) {
-        self.reached += 1;
-        self.entered[vertex] = self.reached;
-        self.lowest[vertex] = self.reached;
-        for place in 0..self.ports[vertex].len() {
-            let (number, ahead) = self.ports[vertex][place];
+    /// Enters a vertex by an edge and searches on from there. Gives its low point: when the
+    /// earliest vertex was entered that is met from here on by any other edge. The edge ahead
+    /// of a low point that is later than the vertex itself is a bridge. The depth is at most
+    /// the count of vertices.
+    fn enter(&mut self, vertex: usize, by: Option<u16>) -> usize {
+        self.count += 1;
+        let own = self.count;
+        self.entered[vertex] = own;
+        let mut earliest = own;
+        for &(number, ahead) in self.ports.at(vertex) {
             if Some(number) == by {
                 continue;
             }
-            if self.entered[ahead] == 0 {
-                self.enter(ahead, Some(number));
-                if self.lowest[ahead] > self.entered[vertex] {
+            let ahead = usize::from(ahead);
+            let mut met = self.entered[ahead];
+            if met == 0 {
+                met = self.enter(ahead, Some(number));
+                if met > own {
                     self.bridges += 1;
                 }
             }
-            self.lowest[vertex] = self.lowest[vertex].min(self.lowest[ahead]);
+            earliest = earliest.min(met);
         }
+        earliest
     }
 }

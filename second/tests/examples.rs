@@ -168,7 +168,7 @@ fn audits_of_the_printed_network() {
     let cases: [(&[u16], bool, usize, usize); 4] = [
         (&[1, 2, 5], true, 3, 0),
         (&[1, 2], true, 3, 2),
-        (&[4, 5], false, 1, 2),
+        (&[4, 5], false, 1, 0),
         (&[], false, 1, 0),
     ];
     for (list, connected, reached, critical) in cases {
