@@ -17,7 +17,8 @@ pub use damage::{damage, Damage};
 pub use lists::{aimed_list, list, list_of, ListStyle};
 pub use meanings::{chain_columns, list_meaning, network_columns, ChainColumns, NetworkColumns};
 pub use networks::{
-    aimed_network, dress, network, network_of, size, text, Family, NetworkAim, Shapeless,
+    aimed_network, dress, loose_network, network, network_of, size, text, Family, NetworkAim,
+    Shapeless,
 };
 pub use rng::Rng;
 pub use tables::{aimed_table, loose_table, table, table_of, table_text, TableAim};

@@ -1,9 +1,13 @@
-//! What is critical in lists by hand, by both ways of finding it.
+//! What is critical in lists by hand, and both ways of finding it on generated lists.
 
 mod common;
 
-use common::network;
+use std::cell::RefCell;
+use std::collections::BTreeSet;
+
+use common::{network, rounds};
 use second::audit::{audit_list, audit_list_by_definition};
+use second::generate::{self, ListStyle};
 use second::{Audit, Network};
 
 /// The answer, which both ways give.
@@ -87,4 +91,74 @@ fn the_longest_path_and_cycle() {
         critical,
     });
     assert_eq!(answers, due);
+}
+
+#[test]
+fn lists_of_every_style() {
+    let met = RefCell::new(BTreeSet::new());
+    rounds(600, |rng| {
+        let size = generate::size(rng).min(40);
+        let networks = [
+            (true, generate::network(rng, size)),
+            (false, generate::loose_network(rng, size)),
+        ];
+        for (accepted, network) in networks {
+            for style in ListStyle::all(rng, &network) {
+                let list = generate::list_of(rng, &network, style);
+                let Audit {
+                    connected,
+                    reached,
+                    critical,
+                } = audited(&network, &list);
+                assert_eq!(connected, reached == network.vertices);
+                let (any_critical, any_spared) = (critical > 0, critical < list.len());
+                let mut met = met.borrow_mut();
+                met.insert((accepted, connected, any_critical, any_spared));
+            }
+        }
+    });
+    // An empty list has neither critical edges nor others, and doesn't connect two vertices.
+    let mut every = BTreeSet::new();
+    for accepted in [false, true] {
+        every.insert((accepted, false, false, false));
+        for connected in [false, true] {
+            for (any_critical, any_spared) in [(false, true), (true, true), (true, false)] {
+                every.insert((accepted, connected, any_critical, any_spared));
+            }
+        }
+    }
+    assert_eq!(met.into_inner(), every);
+}
+
+#[test]
+fn styles_are_what_they_are_named_for() {
+    rounds(400, |rng| {
+        let size = generate::size(rng).min(40);
+        let network = generate::network(rng, size);
+        let mut audit = |style| {
+            let list = generate::list_of(rng, &network, style);
+            (audited(&network, &list), list)
+        };
+        let (answer, list) = audit(ListStyle::Forest);
+        assert!(answer.connected && answer.critical == list.len());
+        let (answer, list) = audit(ListStyle::ForestLessOne);
+        assert!(!answer.connected && answer.critical == list.len());
+        assert!(audit(ListStyle::ForestAndMore).0.connected);
+        assert!(!audit(ListStyle::NoneAcross).0.connected);
+        assert!(!audit(ListStyle::Islands).0.connected);
+        let ends_of = |&number: &u16| {
+            let edge = network.edges[usize::from(number)];
+            (edge.low, edge.high)
+        };
+        let (answer, list) = audit(ListStyle::TwoVertexIslands);
+        let islands: BTreeSet<(u16, u16)> = list.iter().map(ends_of).collect();
+        let touched: BTreeSet<u16> = islands.iter().flat_map(|&(a, b)| [a, b]).collect();
+        assert_eq!(touched.len(), 2 * islands.len());
+        // A single edge is critical, a parallel pair has one edge more and none critical.
+        assert_eq!(answer.critical + list.len(), touched.len());
+        let (_, list) = audit(ListStyle::SinglesAndPairs);
+        let mut ends: Vec<(u16, u16)> = list.iter().map(ends_of).collect();
+        ends.sort_unstable();
+        assert!(ends.windows(3).all(|three| three[0] != three[2]));
+    });
 }

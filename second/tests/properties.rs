@@ -189,8 +189,7 @@ fn lists_of_every_size_and_shape() {
         let network = if rng.once_in(2) {
             generate::network(rng, size)
         } else {
-            let graph = rng.pick(&Shapeless::ALL).multigraph(rng, size);
-            generate::dress(rng, &graph, CostStyle::Small)
+            generate::loose_network(rng, size)
         };
         for size in 0..=network.edges.len() {
             let list = generate::list_of(rng, &network, ListStyle::Size(size));

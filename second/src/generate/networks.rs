@@ -372,6 +372,13 @@ pub fn network(rng: &mut Rng, vertices: usize) -> Network {
     network_of(rng, family, vertices, style)
 }
 
+/// A network that reads, but that the check mostly refuses, made in any way.
+pub fn loose_network(rng: &mut Rng, vertices: usize) -> Network {
+    let graph = rng.pick(&Shapeless::ALL).multigraph(rng, vertices);
+    let style = rng.pick(&CostStyle::ALL);
+    dress(rng, &graph, style)
+}
+
 /// The text of a generated network.
 pub fn text(network: &Network) -> Vec<u8> {
     write_network(network).expect("generated networks keep the limits")
