@@ -81,7 +81,9 @@ uint32_t thinning_check_chain(const uint8_t *network, size_t network_len,
                               size_t *kept_written);
 
 /* Audits a list over a network text, which must read but need not be accepted: whether the listed edges join all
- * vertices, how many vertices they join to vertex 0 (itself included), and how many of them are critical.
+ * vertices, how many vertices they join to vertex 0 (itself included), and how many of them are critical. A listed edge
+ * is critical if its ends are joined by the list and not by the list without it: it is a bridge of the listed graph,
+ * whether that is in one piece or has islands.
  * Refusals: 1 to 5 of the network, whichever comes first in the text, then 1 and 14 of the list. */
 uint32_t thinning_audit(const uint8_t *network, size_t network_len, const uint8_t *list, size_t list_len,
                         bool *connected, size_t *reached, size_t *critical);

@@ -310,7 +310,7 @@ pub fn write_list(vertices: usize, edges: &[u16], text: &mut [u8], written: &mut
 }
 
 /// Audits a list over a network text: whether it joins all vertices, how many it joins to vertex 0, and how many of
-/// its edges are critical.
+/// its edges are critical. A listed edge is critical if its ends are joined by the list and not by the list without it.
 pub fn audit(
     network: &[u8],
     list: &[u8],

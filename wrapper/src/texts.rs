@@ -18,7 +18,8 @@ pub struct Audit {
     pub connected: bool,
     /// How many vertices they join to vertex 0, itself included.
     pub reached: usize,
-    /// How many of them are critical.
+    /// How many of them are critical. One is if its ends are joined by the list and not by the list without it: it is a
+    /// bridge of the listed graph, whether that is in one piece or has islands.
     pub critical: usize,
 }
 
