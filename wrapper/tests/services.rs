@@ -1,6 +1,6 @@
 //! Each service on the printed network of document 01, and its refusals.
 
-use thinning::{raw, Chain, Network, Refusal};
+use thinning::{raw, Audit, Chain, Network, Refusal};
 
 const NETWORK: &[u8] = include_bytes!("../../crates/plan/stdin");
 const CHAIN: &[u8] = b"03000100040005\n040003\n";
@@ -61,6 +61,36 @@ fn a_chain_is_refused_by_name() {
     for (chain, refusal) in cases {
         assert_eq!(thinning::check_chain(NETWORK, chain), Err(refusal));
     }
+}
+
+#[test]
+fn the_printed_network_is_audited() {
+    // Lists, whether they join all vertices, how many they join to vertex 0, and how many of their edges are critical.
+    let cases: [(&[u16], bool, usize, usize); 4] = [
+        (&[1, 2, 5], true, 3, 0),
+        (&[1, 2], true, 3, 2),
+        (&[4, 5], false, 1, 0),
+        (&[], false, 1, 0),
+    ];
+    for (edges, connected, reached, critical) in cases {
+        let list = thinning::write_list(3, edges).expect("the list rises");
+        let due = Audit {
+            connected,
+            reached,
+            critical,
+        };
+        assert_eq!(thinning::audit(NETWORK, &list), Ok(due));
+    }
+}
+
+#[test]
+fn an_audit_is_refused_by_name() {
+    let uneven = changed("02000100000001", "02000100000002");
+    assert!(thinning::audit(&uneven, b"").is_ok());
+    let broken = changed("0100030000\n", "0100030000");
+    assert_eq!(thinning::audit(&broken, b"050006\n"), Err(Refusal::Form));
+    assert_eq!(thinning::audit(NETWORK, b"050005"), Err(Refusal::Form));
+    assert_eq!(thinning::audit(NETWORK, b"050006\n"), Err(Refusal::Listed));
 }
 
 #[test]
