@@ -141,7 +141,9 @@ fn shapeless_networks_of_all_kinds() {
                 Shapeless::MovedEnd => assert_eq!(answer, Err(6)),
                 Shapeless::TwoAcross | Shapeless::Islands => assert_eq!(answer, Err(7)),
                 Shapeless::FourEach => assert_ne!(answer, Err(6)),
-                _ => assert_ne!(answer, Err(7)),
+                // By chance each vertex may have four edges.
+                Shapeless::AnyEnds => assert!(matches!(answer, Ok(()) | Err(6 | 7))),
+                Shapeless::Star | Shapeless::Bundle => assert_ne!(answer, Err(7)),
             }
         });
     }
