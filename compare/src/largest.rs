@@ -202,7 +202,7 @@ fn aimed(rng: &mut Rng, case: &Case, place: usize) -> Result<Vec<u8>, Difference
     Ok(aimed.chain)
 }
 
-/// The audit of lists that join all vertices, and of lists that don't.
+/// The audit of lists that join all vertices, and of lists that leave islands.
 fn audits(rng: &mut Rng, case: &Case) -> Compared {
     let network = &case.network;
     let kept = read_kept(&case.plan.kept).expect("it is a kept text").edges;
@@ -221,7 +221,14 @@ fn audits(rng: &mut Rng, case: &Case) -> Compared {
     for list in joined {
         audit(rng, case, &list, true)?;
     }
-    for list in [at_one, elsewhere, Vec::new()] {
+    let unjoined = [
+        at_one,
+        elsewhere,
+        Vec::new(),
+        generate::list_of(rng, network, ListStyle::NoneAcross),
+        generate::list_of(rng, network, ListStyle::Islands),
+    ];
+    for list in unjoined {
         audit(rng, case, &list, false)?;
     }
     Ok(())

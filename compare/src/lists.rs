@@ -1,10 +1,12 @@
 //! Audit lists: reader, writer and the audit.
 
-use second::generate::{self, NetworkAim, Rng, Shapeless};
+use second::audit::audit_list_by_definition;
+use second::generate::{self, ListStyle, NetworkAim, Rng};
+use second::{Audit, Network};
 use thinning::raw;
 
 use crate::buffers::{compare, due_length, lengths, Lent, Number};
-use crate::difference::{Compared, Given, Text};
+use crate::difference::{Compared, Difference, Given, Text};
 use crate::networks::writer;
 
 /// The reader on texts of lists, whole, damaged and with a fault aimed at.
@@ -68,10 +70,7 @@ pub fn audits(rng: &mut Rng) -> Compared {
     audit(rng, &text, &damaged)?;
     let (aimed, _) = generate::aimed_list(rng, &network);
     audit(rng, &text, &aimed)?;
-    let shape = rng.pick(&Shapeless::ALL);
-    let graph = shape.multigraph(rng, vertices.max(shape.fewest_vertices()));
-    let style = rng.pick(&generate::CostStyle::ALL);
-    let loose = generate::dress(rng, &graph, style);
+    let loose = generate::loose_network(rng, vertices);
     let edges = generate::list(rng, &loose);
     let loose_list = second::write_list(loose.vertices, &edges).expect("the list rises");
     audit(rng, &generate::text(&loose), &loose_list)?;
@@ -80,9 +79,38 @@ pub fn audits(rng: &mut Rng) -> Compared {
     audit(rng, &broken, &list)
 }
 
+/// The audit of lists of every style, many of them with islands, over an accepted network and a loose one.
+pub fn half_built_audits(rng: &mut Rng) -> Compared {
+    for (network, lists) in half_built(rng) {
+        let text = generate::text(&network);
+        for edges in lists {
+            let list = second::write_list(network.vertices, &edges).expect("the list rises");
+            audit(rng, &text, &list)?;
+        }
+    }
+    Ok(())
+}
+
+/// An accepted network and a loose one, each with a list of every style.
+pub fn half_built(rng: &mut Rng) -> [(Network, Vec<Vec<u16>>); 2] {
+    let vertices = generate::size(rng);
+    let networks = [
+        generate::network(rng, vertices),
+        generate::loose_network(rng, vertices),
+    ];
+    networks.map(|network| {
+        let styles = ListStyle::all(rng, &network);
+        let lists = styles.map(|style| generate::list_of(rng, &network, style));
+        (network, lists.to_vec())
+    })
+}
+
 /// The audit of a list over a network, whatever both are.
 pub fn audit(rng: &mut Rng, network: &[u8], list: &[u8]) -> Compared {
     let due = second::audit(network, list);
+    if let Ok(answer) = due {
+        by_definition(network, list, answer)?;
+    }
     let (connected_due, reached_due, critical_due) = match due {
         Ok(audit) => (audit.connected, audit.reached, audit.critical),
         Err(_) => (false, 0, 0),
@@ -108,4 +136,17 @@ pub fn audit(rng: &mut Rng, network: &[u8], list: &[u8]) -> Compared {
             &("critical", &critical, critical_due),
         ],
     )
+}
+
+/// The second program's answer, which comes from a search for bridges, is what the definition gives.
+fn by_definition(network: &[u8], list: &[u8], answer: Audit) -> Compared {
+    let read = second::read_network(network).expect("it was audited");
+    let edges = second::read_list(read.vertices, list).expect("it was audited");
+    let due = audit_list_by_definition(&read, &edges);
+    if answer == due {
+        return Ok(());
+    }
+    let given: &Given = &[("network", &Text(network)), ("list", &Text(list))];
+    let fault = "the second program itself doesn't keep to the definition";
+    Err(Difference::new("audit", fault, given, &due, &answer))
 }

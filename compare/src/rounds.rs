@@ -12,7 +12,7 @@ use crate::{chains, lists, networks, program, tables, vectors};
 type Part = (&'static str, fn(&mut Rng) -> Compared);
 
 /// New parts stand last, so that those before them keep their numbers.
-const PARTS: [Part; 13] = [
+const PARTS: [Part; 14] = [
     ("program", program::plan),
     ("network-texts", networks::texts),
     ("network-columns", networks::columns),
@@ -26,6 +26,7 @@ const PARTS: [Part; 13] = [
     ("list-vectors", vectors::lists),
     ("table-texts", tables::texts),
     ("table-vectors", vectors::tables),
+    ("half-built-audits", lists::half_built_audits),
 ];
 
 /// Runs all rounds, and says how many differences were met.
@@ -109,6 +110,8 @@ impl Progress {
 mod tests {
     use std::collections::BTreeSet;
 
+    use second::audit::audit_list;
+
     use super::*;
 
     /// What the check of a table may answer; 13 comes with the short buffers of the accepted ones.
@@ -124,5 +127,33 @@ mod tests {
             }
         }
         assert_eq!(met, BTreeSet::from(ANSWERS));
+    }
+
+    /// Whether a list connects all vertices, has critical edges, and has others.
+    const SORTS: [(bool, bool, bool); 7] = [
+        (false, false, false),
+        (false, false, true),
+        (false, true, true),
+        (false, true, false),
+        (true, false, true),
+        (true, true, true),
+        (true, true, false),
+    ];
+
+    #[test]
+    fn few_rounds_have_half_built_lists_of_every_sort() {
+        let mut met = [BTreeSet::new(), BTreeSet::new()];
+        for (part, mut rng) in (1..=40).flat_map(parts) {
+            if part.0 == "half-built-audits" {
+                for ((network, lists), met) in lists::half_built(&mut rng).iter().zip(&mut met) {
+                    met.extend(lists.iter().map(|list| {
+                        let audit = audit_list(network, list);
+                        let (critical, all) = (audit.critical, list.len());
+                        (audit.connected, critical > 0, critical < all)
+                    }));
+                }
+            }
+        }
+        assert_eq!(met, [SORTS, SORTS].map(BTreeSet::from));
     }
 }
