@@ -1,22 +1,24 @@
 //! Prints how long the linked services and the second program take for the same inputs.
 //!
-//! `cargo run --release --offline` prints a table: the core, the second program by the same method (`EveryFlow`:
-//! flows from one vertex to every other one) and by its faster one (`ContractedFlow`: one flow for a splitting), and
-//! how many times the second program's time the core takes. For the audit the two columns are its two ways, each listed
-//! edge left out in turn (as the core does) and one search for bridges. Each time is the shortest of some runs, in which
-//! the programs take turns, so that a busy moment of the machine doesn't fall on one of them alone; none is asserted.
+//! `cargo run --release --offline` prints two tables and two lines about reading. The first table has the services that
+//! look at cuts: the core, the second program by the same method (`EveryFlow`: flows from one vertex to every other
+//! one) and by its faster one (`ContractedFlow`: one flow for a splitting). The second table has the audit of all edges
+//! and of half of them, which leave islands: both programs read the network and the list, and then make one depth-first
+//! search with low points, which is linear in the vertices and the listed edges.
+//!
+//! A ratio says how many times the second program's time the core takes. Each time is the shortest of some runs, in
+//! which the programs take turns, so that a busy moment of the machine doesn't fall on one of them alone; none is
+//! asserted.
 
 use std::hint::black_box;
 use std::thread;
 use std::time::{Duration, Instant};
 
-use second::audit::audit_list_by_definition;
-use second::generate::{self, CostStyle, Family, Rng};
+use second::generate::{self, CostStyle, Family, ListStyle, Rng};
 use second::lengths::{LONGEST_NETWORK_TEXT, LONGEST_TABLE_TEXT};
 use second::refusal::BROKEN_TEXT;
 use second::{
-    audit, check_chain_by, check_network_by, plan_by, read_list, read_network, read_table,
-    write_list, Method,
+    audit, check_chain_by, check_network_by, plan_by, read_network, read_table, write_list, Method,
 };
 use thinning::Refusal;
 
@@ -24,100 +26,121 @@ const SIZES: [usize; 4] = [32, 64, 128, 256];
 const FAMILIES: [Family; 2] = [Family::TwoCycles, Family::PinchedNear];
 const SEED: u64 = 1;
 const RUNS: usize = 15;
-/// Reading is short, so that more runs are needed to meet an undisturbed one.
-const READING_RUNS: usize = 2_000;
+/// What takes a moment needs more runs to meet an undisturbed one.
+const SHORT_RUNS: usize = 2_000;
 /// Bytes of stack that are to be enough for 256 vertices; a deeper call would end the program.
 const STACK: usize = 2_000_000;
 
 fn main() {
-    println!(
-        "{:>47}   {:>19}   {:>19}",
-        "core", "EveryFlow", "ContractedFlow"
-    );
-    println!(
-        "{:<12} {:>8}  {:<11} {:>12}   {:>12} {:>6}   {:>12} {:>6}",
-        "family", "vertices", "service", "ms", "ms", "ratio", "ms", "ratio"
-    );
-    for family in FAMILIES {
-        for vertices in SIZES {
-            let text = text(family, vertices);
-            on_small_stack(|| services(family, vertices, &text));
-        }
-    }
+    heading("service", &["EveryFlow", "ContractedFlow"]);
+    on_every_network(cut_services);
+    println!();
+    heading("audit of", &["bridge search"]);
+    on_every_network(audits);
+    println!();
     reading_a_network();
     reading_a_table();
 }
 
-/// The network text that all services are given.
-fn text(family: Family, vertices: usize) -> Vec<u8> {
-    let mut rng = Rng::new(SEED);
-    let network = generate::network_of(&mut rng, family, vertices, CostStyle::Anything);
-    generate::text(&network)
+/// The two lines above a table: what a line is about, and what the second program does.
+fn heading(subject: &str, ways: &[&str]) {
+    print!("{:>47}", "core");
+    for way in ways {
+        print!("   {way:>19}");
+    }
+    print!(
+        "\n{:<12} {:>8}  {subject:<11} {:>12}",
+        "family", "vertices", "ms"
+    );
+    for _ in ways {
+        print!("   {:>12} {:>6}", "ms", "ratio");
+    }
+    println!();
 }
 
-/// Runs on a thread with a stack of so many bytes and no more.
-fn on_small_stack(work: impl FnOnce() + Send) {
-    thread::scope(|scope| {
-        thread::Builder::new()
-            .stack_size(STACK)
-            .spawn_scoped(scope, work)
-            .expect("a thread starts");
-    });
+/// A network that the programs are given.
+struct Given {
+    family: Family,
+    vertices: usize,
+    text: Vec<u8>,
 }
 
-/// Prints a line for each service that looks at cuts.
-fn services(family: Family, vertices: usize, text: &[u8]) {
-    let chain = &thinning::plan(text).expect("it is accepted").chain;
-    let line = |service: &str, works: [Work; 3]| {
-        let [core, second @ ..] = shortest(RUNS, works);
-        print!("{:<12} {vertices:>8}  {service:<11}", format!("{family:?}"));
-        print!(" {:>12.3}", milliseconds(core));
-        for time in second {
-            print!("   {:>12.3} {:>6.2}", milliseconds(time), ratio(core, time));
+impl Given {
+    fn new(family: Family, vertices: usize) -> Self {
+        let mut rng = Rng::new(SEED);
+        let network = generate::network_of(&mut rng, family, vertices, CostStyle::Anything);
+        let text = generate::text(&network);
+        Given {
+            family,
+            vertices,
+            text,
+        }
+    }
+
+    /// Prints a line of a table: the core's time, and each of the second program's with its ratio.
+    fn line<const N: usize>(&self, subject: &str, runs: usize, works: [Work; N]) {
+        let times = shortest(runs, works);
+        let (&core, second) = times.split_first().expect("the core is timed");
+        let family = format!("{:?}", self.family);
+        print!("{family:<12} {:>8}  {subject:<11}", self.vertices);
+        print!(" {:>12.4}", milliseconds(core));
+        for &time in second {
+            print!("   {:>12.4} {:>6.2}", milliseconds(time), ratio(core, time));
         }
         println!();
-    };
+    }
+}
+
+/// Prints the lines of a table for each family and size, on a thread with a small stack and no more.
+fn on_every_network(print_lines: fn(&Given)) {
+    for family in FAMILIES {
+        for vertices in SIZES {
+            let given = Given::new(family, vertices);
+            thread::scope(|scope| {
+                thread::Builder::new()
+                    .stack_size(STACK)
+                    .spawn_scoped(scope, || print_lines(&given))
+                    .expect("a thread starts");
+            });
+        }
+    }
+}
+
+/// A line for each service that looks at cuts.
+fn cut_services(given: &Given) {
+    let text = &given.text;
+    let chain = &thinning::plan(text).expect("it is accepted").chain;
     let methods = [Method::EveryFlow, Method::ContractedFlow];
     let [every, contracted] = methods.map(|method| work(move || check_network_by(text, method)));
-    line(
-        "check",
-        [work(|| thinning::check_network(text)), every, contracted],
-    );
+    let core = work(|| thinning::check_network(text));
+    given.line("check", RUNS, [core, every, contracted]);
     let [every, contracted] = methods.map(|method| work(move || plan_by(text, method)));
-    line("plan", [work(|| thinning::plan(text)), every, contracted]);
+    let core = work(|| thinning::plan(text));
+    given.line("plan", RUNS, [core, every, contracted]);
     let [every, contracted] =
         methods.map(|method| work(move || check_chain_by(text, chain, method)));
-    line(
-        "chain check",
-        [
-            work(|| thinning::check_chain(text, chain)),
-            every,
-            contracted,
-        ],
-    );
-    let edges: Vec<u16> = (0..2 * vertices)
-        .map(|e| u16::try_from(e).expect("few edges"))
-        .collect();
-    let list = write_list(vertices, &edges).expect("the list rises");
-    // The second program's two ways: each listed edge left out in turn, as the core does it, and one search for bridges.
-    let by_definition = || {
-        let network = read_network(text).expect("it reads");
-        let edges = read_list(vertices, &list).expect("it reads");
-        audit_list_by_definition(&network, &edges)
-    };
-    line(
-        "audit",
-        [
-            work(|| thinning::audit(text, &list)),
-            work(by_definition),
-            work(|| audit(text, &list)),
-        ],
-    );
+    let core = work(|| thinning::check_chain(text, chain));
+    given.line("chain check", RUNS, [core, every, contracted]);
+}
+
+/// A line for the audit of all edges, and one for that of half of them, which leave islands.
+fn audits(given: &Given) {
+    let (text, vertices) = (&given.text, given.vertices);
+    let network = read_network(text).expect("it reads");
+    let mut rng = Rng::new(SEED);
+    for (subject, size) in [("all edges", 2 * vertices), ("half of all", vertices)] {
+        let edges = generate::list_of(&mut rng, &network, ListStyle::Size(size));
+        let list = &write_list(vertices, &edges).expect("the list rises");
+        let connected = audit(text, list).expect("both read").connected;
+        assert_eq!(connected, size == network.edges.len());
+        let core = work(|| thinning::audit(text, list));
+        given.line(subject, SHORT_RUNS, [core, work(|| audit(text, list))]);
+    }
 }
 
 /// The longest network text.
 fn reading_a_network() {
-    let text = text(Family::TwoCycles, 256);
+    let Given { text, .. } = Given::new(Family::TwoCycles, 256);
     assert_eq!(text.len(), LONGEST_NETWORK_TEXT);
     reading(
         "a network",
@@ -151,7 +174,7 @@ fn reading_a_table() {
 
 /// Prints how long both programs take to read so many bytes.
 fn reading(text: &str, bytes: usize, works: [Work; 2]) {
-    let [core, second] = shortest(READING_RUNS, works);
+    let [core, second] = shortest(SHORT_RUNS, works);
     println!(
         "reading {text}, {bytes} bytes: core {:.4} ms, second {:.4} ms, ratio {:.2}",
         milliseconds(core),
