@@ -1,4 +1,3 @@
-pub mod Critical
 pub mod Answers
 pub mod Service
 pub mod Audits

@@ -1,14 +1,13 @@
-// The audit of a list of edges: which vertices it joins, and which of its edges are critical.
+// The audit of a list of edges: which vertices it joins, and how many of its edges are bridges.
 ghost use mathlib.Core.Path.{_≡_};
 ghost use Rattle.connection.specs.Searchable.{Searchable};
 ghost use Rattle.audit.specs.Answers.{audited};
 use base::EDGE_LIMIT;
+use bridges::bridge_count;
 use connection::Incidence;
 use connection::count_reached;
-use critical::critical_count;
 use graph::Network;
 
-mod critical;
 mod service;
 
 pub use service::Audited;
@@ -20,8 +19,8 @@ pub struct Answers {
     pub connected: bool,
     // How many vertices they join to vertex 0, itself included.
     pub reached: usize,
-    // How many of them are critical.
-    pub critical: usize,
+    // How many of them are bridges (document 02: critical cables).
+    pub bridges: usize,
 }
 
 // Audits a list of a network's edges.
@@ -39,11 +38,10 @@ pub fn audit(network: Network, listed: [bool; EDGE_LIMIT]) -> Answers
         &table.first,
         &table.next,
     );
-    let whole = reached == network.vertices;
-    let critical = critical_count(network, listed, whole, table);
+    let bridges = bridge_count(network, listed, table);
     Answers {
-        connected: whole,
-        reached: reached,
-        critical: critical,
+        connected: reached == network.vertices,
+        reached,
+        bridges,
     }
 }

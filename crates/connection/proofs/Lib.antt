@@ -4,3 +4,4 @@ pub mod Bits
 pub mod Sets
 pub mod Searching
 pub mod Chaining
+pub mod Tabling

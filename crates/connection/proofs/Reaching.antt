@@ -1,5 +1,5 @@
--- The reached vertices of a list: those that a walk reaches from the start vertex, and the least set that holds the
--- start vertex and that no listed edge leaves.
+-- What listed edges join to a start vertex: the vertices that a walk reaches from there, and the least set that holds
+-- the start vertex and that no listed edge leaves.
 use mathlib.Core.Path.{_≡_, refl, sym, _∙_, ap}
 use mathlib.Core.Logic.{_⊎_, inl, inr, ⊎-elim, _↔_}
 use mathlib.Core.Bool.{Bool, true, false, _&&_, _||_, or-true}
@@ -19,8 +19,8 @@ use Rattle.graph.specs.declared.Network.{Network}
 use Rattle.base.proofs.Bools.{never, eqb-self, eqb-is, and-left, and-right, bit-low, same-test}
 use Rattle.base.proofs.Sums.{any-in, any-out, sum-ext, sum-zeros, sum-join, sum-bound, term-le, tabulate-length}
 use Rattle.base.proofs.Sums.{tabulate-at}
-use Rattle.connection.specs.Connection.{leads, grown, within, reached, reachedCount, connected}
-use Rattle.connection.specs.Joined.{Link, Joined, stays, goes}
+use Rattle.connection.specs.Connection.{leads, grown, within, reached, joined, reachedCount, connected}
+use Rattle.connection.specs.Walk.{Link, Walk, stays, goes, JoinedByWalks}
 use Rattle.connection.specs.Searchable.{Searchable}
 use Rattle.connection.specs.Search.{Closed, Least}
 use Rattle.connection.specs.Words.{has, size}
@@ -156,14 +156,13 @@ module _ (g : Network) (K : List Bool) (start : ℕ) where
       | no l ↦ still-on k (still k (omega arith))
     ]
 
-    reached-start : sideOf (reached g K start) start ≡ true
-    unfolding reached
-    reached-start = within-start (g .vertices)
+    joined-start : joined g K start start ≡ true
+    unfolding joined reached
+    joined-start = within-start (g .vertices)
 
-    reached-link : (e v w : ℕ) → w < g .vertices → Link g K e v w
-        → sideOf (reached g K start) v ≡ true → sideOf (reached g K start) w ≡ true
-    unfolding reached Still
-    reached-link e v w l k h =
+    joined-link : (e v w : ℕ) → w < g .vertices → Link g K e v w → joined g K start v ≡ true → joined g K start w ≡ true
+    unfolding joined reached Still
+    joined-link e v w l k h =
         let n = g .vertices in
         let last = ap (λ R. sideOf R w) (sym (still n (amount-low n))) in
         last ∙ within-next n w l ∙ grown-by g K (sideOf (within g K start n)) e v w k h
@@ -183,31 +182,29 @@ module _ (g : Network) (K : List Bool) (start : ℕ) (w : Searchable g) (some : 
       (λ (a, b). rw b at (w .low-below e (k .number)))
       (k .ends)
 
-  -- the reached vertices are those that a walk over listed edges reaches from the start vertex
-  pub reached-joined : (v : ℕ) → (sideOf (reached g K start) v ≡ true) ↔ Joined g K start v
-  unfolding reached
-  reached-joined v =
-      (within-all g K start (Joined g K start) stays (λ e u w k j. goes j k) (g .vertices) v, back)
+  -- a walk over listed edges leads to each vertex that is joined, and to no other
+  by-walks : (v : ℕ) → (joined g K start v ≡ true) ↔ Walk g K start v
+  unfolding joined reached
+  by-walks v = (within-all g K start (Walk g K start) stays (λ e u w k j. goes j k) (g .vertices) v, back)
     where
-      back : {v : ℕ} → Joined g K start v → sideOf (reached g K start) v ≡ true
-      back stays = reached-start g K start some
-      back (goes {e = e} {v = u} {w = v} j k) = reached-link g K start some e u v (link-below e u v k) k (back j)
+      back : {v : ℕ} → Walk g K start v → joined g K start v ≡ true
+      back stays = joined-start g K start some
+      back (goes {e = e} {v = u} {w = v} j k) = joined-link g K start some e u v (link-below e u v k) k (back j)
 
-  -- and the least set that holds the start vertex and that no listed edge leaves
-  pub reached-least : Least (g .low) (g .high) K (g .edges) start (sideOf (reached g K start))
-  unfolding reached
-  reached-least = record {
-    holds-start = reached-start g K start some;
-    closed = λ e l k. same-test (sideOf (reached g K start) (lowEnd g e)) (sideOf (reached g K start) (highEnd g e))
+  -- they are the least set that holds the start vertex and that no listed edge leaves
+  pub joined-least : Least (g .low) (g .high) K (g .edges) start (joined g K start)
+  unfolding joined reached
+  joined-least = record {
+    holds-start = joined-start g K start some;
+    closed = λ e l k. same-test (joined g K start (lowEnd g e)) (joined g K start (highEnd g e))
         (onward e (w .high-below e l) (record { number = l; listed = k; ends = inl (refl, refl) }))
         (onward e (w .low-below e l) (record { number = l; listed = k; ends = inr (refl, refl) }));
-    inside = λ T z closed v.
-        within-all g K start (λ u. T u ≡ true) z (λ e u x k t. along T closed e u x k t) (g .vertices) v;
+    inside = all-inside;
   }
     where
       onward : (e : ℕ) {u v : ℕ} → v < g .vertices → Link g K e u v
-          → sideOf (reached g K start) u ≡ true → sideOf (reached g K start) v ≡ true
-      onward e {u} {v} = reached-link g K start some e u v
+          → joined g K start u ≡ true → joined g K start v ≡ true
+      onward e {u} {v} = joined-link g K start some e u v
 
       along : (T : Side) → Closed (g .low) (g .high) K (g .edges) T
           → (e u v : ℕ) → Link g K e u v → T u ≡ true → T v ≡ true
@@ -216,20 +213,25 @@ module _ (g : Network) (K : List Bool) (start : ℕ) (w : Searchable g) (some : 
           (λ (a, b). ap T (sym b) ∙ closed e (k .number) (k .listed) ∙ ap T a ∙ t)
           (k .ends)
 
+      all-inside : (T : Side) → T start ≡ true → Closed (g .low) (g .high) K (g .edges) T
+          → (v : ℕ) → joined g K start v ≡ true → T v ≡ true
+      all-inside T z closed v =
+          within-all g K start (λ u. T u ≡ true) z (λ e u x k t. along T closed e u x k t) (g .vertices) v
+
   -- ── what the search's words say ──
 
   module _ (W : List ℕ) (least : Least (g .low) (g .high) K (g .edges) start (has W)) where
     -- bit v is set exactly if the listed edges join v to the start vertex
-    least-reached : (v : ℕ) → has W v ≡ sideOf (reached g K start) v
-    least-reached = least-one least reached-least
+    least-joined : (v : ℕ) → has W v ≡ joined g K start v
+    least-joined = least-one least joined-least
 
     -- and so many bits are set
     pub least-size : g .vertices ≤ vertexLimit → size W ≡ reachedCount g K start
-    unfolding size reachedCount
+    unfolding size reachedCount joined
     least-size room =
         let n = g .vertices in
-        let f : ℕ → ℕ = λ v. bit (sideOf (reached g K start) v) in
-        let same = sum-ext vertexLimit (λ v. bit (has W v)) f (λ v l. ap bit (least-reached v)) in
+        let f : ℕ → ℕ = λ v. bit (joined g K start v) in
+        let same = sum-ext vertexLimit (λ v. bit (has W v)) f (λ v l. ap bit (least-joined v)) in
         let all : n + (vertexLimit - n) ≡ vertexLimit = omega arith in
         let short = reached-length g K start in
         let beyond = sum-ext (vertexLimit - n) (λ i. f (n + i)) (λ i. 0)
@@ -243,11 +245,15 @@ module _ (g : Network) (K : List Bool) (start : ℕ) (w : Searchable g) (some : 
           ap (λ k. sum k f) all,
         )
 
--- ── whether all are reached ──
+-- what is joined is what walks reach
+pub joined-by-walks : JoinedByWalks
+joined-by-walks g K start v w some = by-walks g K start w some v
+
+-- ── whether all are joined ──
 
 pub connected-count : (g : Network) (K : List Bool) → connected g K ≡ eqb (reachedCount g K 0) (g .vertices)
 unfolding connected reachedCount
-connected-count g K = each-count (g .vertices) (sideOf (reached g K 0))
+connected-count g K = each-count (g .vertices) (joined g K 0)
 
 -- a network as it is read, or after any steps, can be searched
 pub formed-searchable : (g : Network) → Formed g → Searchable g

@@ -25,10 +25,14 @@ within g K start (suc k) = tabulate (g .vertices) (grown g K (sideOf (within g K
 unfoldable pub reached : Network → List Bool → ℕ → List Bool
 reached g K start = within g K start (g .vertices)
 
--- how many they are
-unfoldable pub reachedCount : Network → List Bool → ℕ → ℕ
-reachedCount g K start = sum (g .vertices) (λ v. bit (sideOf (reached g K start) v))
+-- whether the listed edges join a vertex to the start vertex
+unfoldable pub joined : Network → List Bool → ℕ → ℕ → Bool
+joined g K start = sideOf (reached g K start)
 
--- the listed edges join all vertices: all are reached from vertex 0
+-- how many vertices they join to it
+unfoldable pub reachedCount : Network → List Bool → ℕ → ℕ
+reachedCount g K start = sum (g .vertices) (λ v. bit (joined g K start v))
+
+-- the listed edges join all vertices: each is joined to vertex 0
 unfoldable pub connected : Network → List Bool → Bool
-connected g K = each (g .vertices) (sideOf (reached g K 0))
+connected g K = each (g .vertices) (joined g K 0)

@@ -1,5 +1,5 @@
 pub mod Connection
-pub mod Joined
+pub mod Walk
 pub mod Searchable
 pub mod Words
 pub mod Search

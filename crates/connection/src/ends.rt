@@ -1,5 +1,5 @@
-// A table of the listed edges' ends at each vertex. It only makes a search fast: what a search finds does not depend on
-// what stands in it, so the table of a list serves every part of the list as well.
+// A table of the listed edges' ends at each vertex, which makes a search fast. What a search for the vertices joined to
+// one finds does not depend on what stands in it; a depth-first search does.
 // Edge e has end 2 e at its low vertex and end 2 e + 1 at its high one. The ends at vertex v are first[v],
 // next[first[v]] and so on, in rising order, as far as there are ends.
 ghost use Prim.Native.Nat.{_<_, _≤_};

@@ -28,7 +28,7 @@ triangle costs = record
 abbrev pub T : District
 T = triangle (pos 7 ∷ pos 4 ∷ pos 1 ∷ pos 2 ∷ pos 6 ∷ pos 3 ∷ [])
 
-abbrev square : District
+abbrev pub square : District
 square =
     record {
       vertices = 4;

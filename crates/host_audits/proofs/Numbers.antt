@@ -14,7 +14,7 @@ pub audit-refused : (a : Answer Answers) (k : ℕ) {r : Audited}
     → r ≡ audited.Refused k → r ≡ auditedOf a → (b : Bool) (i j : ℕ)
     → (k ≡ refusalOf a)
     × ((b ≡ numberGiven (λ m. m .connected) a b)
-    × ((i ≡ numberGiven (λ m. m .reached) a i) × (j ≡ numberGiven (λ m. m .critical) a j)))
+    × ((i ≡ numberGiven (λ m. m .reached) a i) × (j ≡ numberGiven (λ m. m .bridges) a j)))
 unfolding auditedOf refusalOf numberGiven
 audit-refused (refused n) k e f b i j = (cc, (refl, (refl, refl)))
 audit-refused (answer m) k e f b i j = no-answer (cc)
@@ -23,9 +23,9 @@ pub audit-answered : (a : Answer Answers) (m : Answers) {r : Audited}
     → r ≡ audited.Answered m → r ≡ auditedOf a → (b : Bool) (i j : ℕ)
     → (0 ≡ refusalOf a)
     × ((m .connected ≡ numberGiven (λ m. m .connected) a b)
-    × ((m .reached ≡ numberGiven (λ m. m .reached) a i) × (m .critical ≡ numberGiven (λ m. m .critical) a j)))
+    × ((m .reached ≡ numberGiven (λ m. m .reached) a i) × (m .bridges ≡ numberGiven (λ m. m .bridges) a j)))
 unfolding auditedOf refusalOf numberGiven
 audit-answered (refused k) m e f b i j = no-answer (cc)
 audit-answered (answer n) m e f b i j =
     let q : m ≡ n = cc in
-    (refl, (ap (λ m. m .connected) q, (ap (λ m. m .reached) q, ap (λ m. m .critical) q)))
+    (refl, (ap (λ m. m .connected) q, (ap (λ m. m .reached) q, ap (λ m. m .bridges) q)))

@@ -20,7 +20,7 @@ pub extern "C" fn thinning_audit(
         (auditText (now (network .entry)) (now (list .entry))) (now (connected .entry)) ⌝ }
     ensures reached { λ r. ⌜ now (reached .exit) ≡ numberGiven (λ a. a .reached)
         (auditText (now (network .entry)) (now (list .entry))) (now (reached .entry)) ⌝ }
-    ensures critical { λ r. ⌜ now (critical .exit) ≡ numberGiven (λ a. a .critical)
+    ensures critical { λ r. ⌜ now (critical .exit) ≡ numberGiven (λ a. a .bridges)
         (auditText (now (network .entry)) (now (list .entry))) (now (critical .entry)) ⌝ }
 {
     match audit_list(network, list) {
@@ -28,7 +28,7 @@ pub extern "C" fn thinning_audit(
         Audited::Answered(answers) => {
             *connected = answers.connected;
             *reached = answers.reached;
-            *critical = answers.critical;
+            *critical = answers.bridges;
             0
         }
     }

@@ -78,7 +78,7 @@ fn list(what: &[u8], text: &[u8], listed: &[u8]) {
             }
             io::print_decimal(STDOUT_FILENO, answers.reached as u64);
             say(b", critical ");
-            io::print_decimal(STDOUT_FILENO, answers.critical as u64);
+            io::print_decimal(STDOUT_FILENO, answers.bridges as u64);
             say(b"\n");
         }
         Audited::Refused(number) => {
@@ -158,6 +158,16 @@ fn lists(text: &[u8]) {
     list(b"a list over no network", b"", b"");
 }
 
+// Lists that leave islands, of T and of the district of four cabinets.
+fn islands(text: &[u8], four: &[u8]) {
+    list(b"list 4", text, b"050004\n");
+    list(
+        b"four cabinets, list 0, 1, 2",
+        four,
+        b"050000\n050001\n050002\n",
+    );
+}
+
 // The district of four cabinets.
 fn square(text: &[u8]) {
     chain(
@@ -184,10 +194,11 @@ fn main() {
             0200030000000200000002\n0200040001000200000006\n0200050001000200000003\n";
     chains(printed);
     lists(printed);
-    square(
+    let four =
         b"0100040004\n0200000000000100000002\n0200010000000100000005\n0200020002000300000001\n\
             0200030002000300000004\n0200040000000200000009\n0200050001000300000003\n0200060000000300000006\n\
-            0200070001000200000002\n",
-    );
+            0200070001000200000002\n";
+    islands(printed, four);
+    square(four);
     solver::run();
 }

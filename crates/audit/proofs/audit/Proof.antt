@@ -2,7 +2,7 @@
 use mathlib.Core.Path.{_≡_, refl, sym, _∙_, ap}
 use lib.Dec.{eqb}
 use borrow.Author.Needs.{needs}
-use Rattle.connection.specs.Connection.{connected, reachedCount}
+use Rattle.connection.specs.Connection.{reachedCount}
 use Rattle.connection.proofs.Reaching.{connected-count}
 use Rattle.audit.proofs.Answering.{audited-by}
 use Rattle.audit.proofs.audit.Statement.{statement}
@@ -11,6 +11,13 @@ use Rattle.audit.proofs.audit.Tie as tie
 -- what the function was given, seen from the search's answer
 abbrev entry : tie.After-count-reached → tie.Start
 entry c = c .before .before .before .before .before .before .before .before .before .before .before .before .before
+
+-- so many vertices are reached from vertex 0
+reached : (c : tie.After-count-reached) → c .count-reached .result
+    ≡ reachedCount (entry c .args .t1) (entry c .args .t2) 0
+reached c =
+    let start = entry c in
+    c .count-reached .ensures (start .args .t1) (start .pre) refl refl refl (search needs) (start .pre .some)
 
 of-requires : tie.Need-of-requires
 of-requires c κs = search needs
@@ -21,25 +28,14 @@ slice-aggregate-count-reached c = search needs
 count-reached-requires : tie.Need-count-reached-requires
 count-reached-requires c κs = search needs
 
--- so many vertices are reached from vertex 0
-reached : (c : tie.After-count-reached) → c .count-reached .result
-    ≡ reachedCount (entry c .args .t1) (entry c .args .t2) 0
-reached c =
-    let start = entry c in
-    c .count-reached .ensures (start .args .t1) (start .pre) refl refl refl (search needs) (start .pre .some)
-
--- the list joins all vertices exactly if it reaches them all
-whole : (c : tie.After-count-reached)
-    → let a = entry c .args in eqb (c .count-reached .result) (a .t1 .vertices) ≡ connected (a .t1) (a .t2)
-whole c = ap (λ n. eqb n (entry c .args .t1 .vertices)) (reached c) ∙ sym (connected-count _ _)
-
-critical-count-requires : tie.Need-critical-count-requires
-critical-count-requires c κs = (entry c .pre, whole c)
+bridge-count-requires : tie.Need-bridge-count-requires
+bridge-count-requires c κs = search needs
 
 returns : tie.Need-returns
 returns c =
     let found = c .before in
-    audited-by _ _ (whole found) (reached found) (c .critical-count .ensures)
+    let whole = ap (λ n. eqb n (entry found .args .t1 .vertices)) (reached found) ∙ sym (connected-count _ _) in
+    audited-by _ _ whole (reached found) (c .bridge-count .ensures)
 
 pub audit-spec : {M : Type 1} → statement M
 audit-spec =
@@ -48,5 +44,5 @@ audit-spec =
     of-requires
     slice-aggregate-count-reached
     count-reached-requires
-    critical-count-requires
+    bridge-count-requires
     returns)
