@@ -14,7 +14,7 @@ use base::VERTEX_LIMIT;
 use graph::Network;
 
 // How many ends there are, which stands for none, too.
-const END_LIMIT: usize = 2 * EDGE_LIMIT;
+pub const END_LIMIT: usize = 2 * EDGE_LIMIT;
 
 const NO_END: u16 = END_LIMIT as u16;
 

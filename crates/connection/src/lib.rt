@@ -14,6 +14,7 @@ mod ends;
 mod search;
 mod words;
 
+pub use ends::END_LIMIT;
 pub use ends::Incidence;
 
 // How many vertices the listed edges join to the start vertex in any network with these columns of ends, by a search

@@ -9,15 +9,13 @@ ghost use Rattle.forest.specs.Forest.{at, noPlace};
 ghost use Rattle.forest.specs.Search.{forest, entered, Progress, Grown, work};
 use crate::NO_EDGE;
 use crate::NO_PLACE;
-use base::EDGE_LIMIT;
 use base::VERTEX_LIMIT;
-
-const END_LIMIT: usize = 2 * EDGE_LIMIT;
+use connection::END_LIMIT;
 
 // Where the search goes on, and how many places there are.
-pub struct Turn {
-    pub place: usize,
-    pub count: usize,
+struct Turn {
+    place: usize,
+    count: usize,
 }
 
 // Vertex v gets the next place, below `from` by an edge.
@@ -47,7 +45,7 @@ fn enter(
 // The vertex at the other end of an end's edge.
 fn far_vertex(low: &[u8], high: &[u8], end: usize) -> u8
     requires { ⌜ (length (now low) ≡ edgeLimit) × (length (now high) ≡ edgeLimit) × (end < endLimit) ⌝ }
-    ensures { λ r. ⌜ (r ≡ farVertexOf (now (low .entry)) (now (high .entry)) end) ⌝ }
+    ensures { λ r. ⌜ r ≡ farVertexOf (now (low .entry)) (now (high .entry)) end ⌝ }
 {
     let e = end / 2;
     if end % 2 == 0 { high[e] } else { low[e] }
