@@ -17,6 +17,7 @@ use Rattle.graph.specs.Cut.{Side}
 use Rattle.graph.specs.declared.Network.{Network}
 use Rattle.connection.specs.Searchable.{Searchable}
 use Rattle.connection.specs.Walk.{Joins}
+use Rattle.connection.proofs.Reaching.{across}
 use Rattle.forest.specs.Forest.{at, noPlace, DepthFirst}
 use Rattle.forest.specs.declared.Forest.{Forest}
 use Rattle.bridges.specs.Bridge.{bridge, bridgeCount}
@@ -24,12 +25,6 @@ use Rattle.bridges.specs.LowPoints.{upper, lower, found, From, Points}
 use Rattle.bridges.proofs.Cutting.{without-other, without-differs, without-kept, Uncrossed, parted-bridge}
 use Rattle.bridges.proofs.Cutting.{united-spared}
 use Rattle.bridges.proofs.Raising.{point-low}
-
--- the ends of an edge are on one side exactly if the two vertices that it joins are
-across : (g : Network) (e : ℕ) {v u : ℕ} (S : Side) → Joins (g .low) (g .high) e v u
-    → (S (lowEnd g e) ≡ S (highEnd g e)) ↔ (S v ≡ S u)
-across g e S (inl (p, q)) = (λ h. rw (p, q) at h, λ h. rw (p, q) h)
-across g e S (inr (p, q)) = (λ h. sym (rw (q, p) at h), λ h. rw (q, p) (sym h))
 
 module _ (g : Network) (t : Forest) where
   -- the vertex at a place, and the place of a vertex

@@ -20,11 +20,17 @@ use Rattle.base.proofs.Bools.{never, eqb-self, eqb-is, and-left, and-right, bit
 use Rattle.base.proofs.Sums.{any-in, any-out, sum-ext, sum-zeros, sum-join, sum-bound, term-le, tabulate-length}
 use Rattle.base.proofs.Sums.{tabulate-at}
 use Rattle.connection.specs.Connection.{leads, grown, within, reached, joined, reachedCount, connected}
-use Rattle.connection.specs.Walk.{Link, Walk, stays, goes, JoinedByWalks}
+use Rattle.connection.specs.Walk.{Joins, Link, Walk, stays, goes, JoinedByWalks}
 use Rattle.connection.specs.Searchable.{Searchable}
 use Rattle.connection.specs.Search.{Closed, Least}
 use Rattle.connection.specs.Words.{has, size}
 use Rattle.connection.proofs.Tallies.{bit-le, bit-same, sum-same, each-count}
+
+-- the ends of an edge are on one side exactly if the two vertices that it joins are
+pub across : (g : Network) (e : ℕ) {v w : ℕ} (S : Side) → Joins (g .low) (g .high) e v w
+    → (S (lowEnd g e) ≡ S (highEnd g e)) ↔ (S v ≡ S w)
+across g e S (inl (p, q)) = (λ h. rw (p, q) at h, λ h. rw (p, q) h)
+across g e S (inr (p, q)) = (λ h. sym (rw (q, p) at h), λ h. rw (q, p) (sym h))
 
 or-either : (a b : Bool) → (a || b) ≡ true → (a ≡ true) ⊎ (b ≡ true)
 or-either true b h = inl refl
@@ -208,10 +214,7 @@ module _ (g : Network) (K : List Bool) (start : ℕ) (w : Searchable g) (some : 
 
       along : (T : Side) → Closed (g .low) (g .high) K (g .edges) T
           → (e u v : ℕ) → Link g K e u v → T u ≡ true → T v ≡ true
-      along T closed e u v k t = ⊎-elim
-          (λ (a, b). ap T (sym b) ∙ sym (closed e (k .number) (k .listed)) ∙ ap T a ∙ t)
-          (λ (a, b). ap T (sym b) ∙ closed e (k .number) (k .listed) ∙ ap T a ∙ t)
-          (k .ends)
+      along T closed e u v k t = sym (across g e T (k .ends) .0 (closed e (k .number) (k .listed))) ∙ t
 
       all-inside : (T : Side) → T start ≡ true → Closed (g .low) (g .high) K (g .edges) T
           → (v : ℕ) → joined g K start v ≡ true → T v ≡ true

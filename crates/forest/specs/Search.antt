@@ -12,6 +12,7 @@ use Rattle.connection.specs.Incidence.{endLimit, vertexOf, ListedEnd, Chained}
 use Rattle.forest.specs.Forest.{at, noPlace, Trees, Related}
 use Rattle.forest.specs.declared.Forest.{Forest}
 
+-- a forest by its columns and the number of its places
 abbrev pub forest : List ℕ → List ℕ → List ℕ → List ℕ → ℕ → Forest
 forest number order parent edge count =
     record { number = number; order = order; parent = parent; edge = edge; count = count }
@@ -64,8 +65,10 @@ pub record Course (low high : List ℕ) (K : List Bool) (m : ℕ) (next : List �
   pub sized : Sized low high next t ahead
   pub few : m ≤ edgeLimit
   pub rises : (x : ℕ) → x < endLimit → x < at next x
+  -- what is found so far are trees, and there is a place left for each vertex that has none
   pub trees : Trees low high K m t end
   pub room : t .count + unplaced t ≤ vertexLimit
+  -- the subtree at place i grows, and each subtree is finished or holds place i
   pub here : i < noPlace → (i < t .count) × (end i ≡ unfinished)
   pub turns : (k : ℕ) → k < t .count → Finished t ahead end k ⊎ Open t i end k
   -- what is ahead at a vertex are listed ends there
