@@ -2,9 +2,9 @@
 -- Assumes nothing.
 use mathlib.Core.Path.{_≡_, refl, sym, _∙_, ap}
 use mathlib.Core.List.{List, [], _∷_, _++_, append-nil, append-assoc}
-use Prim.Native.Nat.{ℕ, _+_, _-_, _≤_}
+use Prim.Native.Nat.{ℕ, _+_, _-_, _≤_, _<_}
 use native.Mathlib.Omega.{arith}
-use lib.ListN.{length, set, take, drop, length-append, length-drop, drop-of-length-le}
+use lib.ListN.{length, getD, set, take, drop, length-append, length-drop, drop-of-length-le, List·getD-append}
 use lib.Seq.{take-all, take-at, drop-drop, drop-at, length-take-le}
 use borrow.Rule.Slice.PartMut.{putMid}
 use Rattle.base.specs.Answer.{over}
@@ -27,6 +27,11 @@ module _ {A : Type 0} where
   pub length-over : (xs old : List A) → length xs ≤ length old → length (over xs old) ≡ length old
   unfolding over
   length-over xs old h = length-append xs (drop (length xs) old) ∙ omega (arith, length-drop (length xs) old)
+
+  -- an element of the start
+  pub over-at : (xs old : List A) (d : A) (i : ℕ) → i < length xs → getD (over xs old) i d ≡ getD xs i d
+  unfolding over
+  over-at xs old d i h = List·getD-append xs (drop (length xs) old) d i h
 
   -- writing into the part behind what was written: every writer of one piece after another goes by this law
   pub over-part : (at : ℕ) (xs ys old out : List A) → length xs ≤ length old → at ≡ length xs → out ≡ over xs old

@@ -75,6 +75,12 @@ unfolding fold
 sum-join m zero f = simp add-zero
 sum-join m (suc n) f = let e : m + suc n ≡ suc (m + n) = omega arith in rw e (omega (arith, sum-join m n f))
 
+-- the first term, and the later ones
+pub sum-first : (n : ℕ) (f : ℕ → ℕ) → sum (suc n) f ≡ f 0 + sum n (λ i. f (suc i))
+unfolding fold
+sum-first zero f = omega arith
+sum-first (suc n) f = omega (arith, sum-first n f)
+
 -- a sum of zero has no other terms, and a positive one has a positive term
 pub sum-zero-at : (n : ℕ) (f : ℕ → ℕ) → sum n f ≡ 0 → (i : ℕ) → i < n → f i ≡ 0
 unfolding fold

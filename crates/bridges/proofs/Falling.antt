@@ -9,7 +9,8 @@ use native.Mathlib.Omega.{arith}
 use borrow.Author.Tests.{lt-ltb, le-ltb}
 use lib.ListN.{length, set, length-set, List·getD-eq-default}
 use lib.Seq.{getD-set-same, getD-set-other}
-use Rattle.forest.specs.Forest.{at, DepthFirst}
+use Rattle.base.specs.Columns.{at}
+use Rattle.forest.specs.Forest.{DepthFirst}
 use Rattle.forest.specs.declared.Forest.{Forest}
 use Rattle.bridges.specs.LowPoints.{upper, lower, fallen, From, Points}
 

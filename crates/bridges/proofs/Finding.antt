@@ -18,7 +18,8 @@ use Rattle.graph.specs.declared.Network.{Network}
 use Rattle.connection.specs.Searchable.{Searchable}
 use Rattle.connection.specs.Walk.{Joins}
 use Rattle.connection.proofs.Reaching.{across}
-use Rattle.forest.specs.Forest.{at, noPlace, DepthFirst}
+use Rattle.base.specs.Columns.{at}
+use Rattle.forest.specs.Forest.{noPlace, DepthFirst}
 use Rattle.forest.specs.declared.Forest.{Forest}
 use Rattle.bridges.specs.Bridge.{bridge, bridgeCount}
 use Rattle.bridges.specs.LowPoints.{upper, lower, found, From, Points}

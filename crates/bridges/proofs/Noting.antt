@@ -8,7 +8,8 @@ use native.Mathlib.Omega.{arith}
 use borrow.Author.Tests.{eq-eqb, ne-eqb}
 use Rattle.base.proofs.Bools.{never}
 use Rattle.graph.specs.Network.{kept}
-use Rattle.forest.specs.Forest.{at, DepthFirst}
+use Rattle.base.specs.Columns.{at}
+use Rattle.forest.specs.Forest.{DepthFirst}
 use Rattle.forest.specs.declared.Forest.{Forest}
 use Rattle.bridges.specs.LowPoints.{upper, lower, Own, fallen, noted, BackEdge, Points, Noted}
 use Rattle.bridges.proofs.Falling.{fallen-at, points-fall}

@@ -7,7 +7,8 @@ use native.Mathlib.Decide.{ℕ-discrete, decLt}
 use native.Mathlib.Omega.{arith}
 use borrow.Author.Tests.{lt-ltb, le-ltb}
 use lib.Dec.{ltb}
-use Rattle.forest.specs.Forest.{at, noPlace, DepthFirst}
+use Rattle.base.specs.Columns.{at}
+use Rattle.forest.specs.Forest.{noPlace, DepthFirst}
 use Rattle.forest.specs.declared.Forest.{Forest}
 use Rattle.bridges.specs.LowPoints.{upper, lower, fallen, raised, From, Points, Raised}
 use Rattle.bridges.proofs.Falling.{fallen-at, points-fall}

@@ -8,7 +8,8 @@ use lib.Dec.{eqb, ltb}
 use lib.ListN.{length, set}
 use Rattle.base.specs.Limits.{vertexLimit}
 use Rattle.graph.specs.Network.{kept}
-use Rattle.forest.specs.Forest.{at, noPlace, DepthFirst}
+use Rattle.base.specs.Columns.{at}
+use Rattle.forest.specs.Forest.{noPlace, DepthFirst}
 use Rattle.forest.specs.declared.Forest.{Forest}
 
 -- the places of an edge's ends: the earlier one, and the later one

@@ -10,7 +10,7 @@ use lib.Pow.{shr-shr}
 use lib.Bits.{bitOr, bitXor, or-shr, or-mod, xor-shr, xor-mod}
 use lib.Count.{ones, ones-step, trailingZeros, under}
 use Rattle.base.specs.Fold.{fold, sum, bit}
-use Rattle.base.proofs.Sums.{sum-ext}
+use Rattle.base.proofs.Sums.{sum-ext, sum-first}
 use Rattle.connection.specs.Words.{bitAt}
 
 -- ── a word's lowest bit, and the others ──
@@ -100,12 +100,6 @@ trailing-clear (suc k) w i l = go (w % 2) i refl (trailing-clear k (w / 2)) l
     go (suc d) i e ih l = absurd (omega arith)
 
 -- ── how many bits are set ──
-
--- the first term, and the later ones
-pub sum-first : (n : ℕ) (f : ℕ → ℕ) → sum (suc n) f ≡ f 0 + sum n (λ i. f (suc i))
-unfolding fold
-sum-first zero f = omega arith
-sum-first (suc n) f = omega (arith, sum-first n f)
 
 pub ones-bits : (k w : ℕ) → w < 2 ^ k → ones w ≡ sum k (λ i. bit (bitAt w i))
 unfolding ones fold

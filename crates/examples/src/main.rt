@@ -1,5 +1,6 @@
 // Runs what document 01's district examples say of ports, partners, steps and going back.
 mod districts;
+mod ports;
 mod print;
 
 ghost use Prim.Native.Nat.{_<_};

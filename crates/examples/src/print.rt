@@ -4,11 +4,12 @@ ghost use Prim.Native.Nat.{_≤_, _<_, _^_};
 ghost use lib.IntN.{natAbs};
 ghost use Rattle.graph.specs.Sound.{Light};
 ghost use Rattle.base.specs.Limits.{vertexLimit, edgeLimit};
+use super::ports::degrees_of;
 use base::EDGE_LIMIT;
+use base::VERTEX_LIMIT;
 use graph::Kept;
 use graph::Network;
-use incidence::degrees_of;
-use incidence::four_each;
+use incidence::all_four;
 use incidence::partners_at;
 use libc::STDOUT_FILENO;
 
@@ -47,16 +48,14 @@ fn signed(cost: i64)
     io::print_decimal(STDOUT_FILENO, size(cost));
 }
 
-// How many cables each cabinet has.
-fn ports(g: Network)
-    requires { ⌜ (g .vertices ≤ vertexLimit) × (g .edges ≤ edgeLimit) ⌝ }
+// How many cables each of the first cabinets has.
+fn ports(degrees: [u16; VERTEX_LIMIT], vertices: usize)
+    requires { ⌜ vertices ≤ vertexLimit ⌝ }
 {
-    let degrees = degrees_of(g);
-    let vertices = g.vertices;
     text(b"ports");
     let mut v = 0;
     while v < vertices {
-        number(degrees.at[v] as usize);
+        number(degrees[v] as usize);
         v += 1;
     }
     end_line();
@@ -66,8 +65,9 @@ fn ports(g: Network)
 pub fn overview(g: Network)
     requires { ⌜ (g .vertices ≤ vertexLimit) × (g .edges ≤ edgeLimit) ⌝ }
 {
-    ports(g);
-    if four_each(g) {
+    let degrees = degrees_of(g);
+    ports(degrees, g.vertices);
+    if all_four(&degrees, g.vertices) {
         text(b"every cabinet has four cables\n");
     } else {
         text(b"refusal 6\n");

@@ -15,7 +15,8 @@ use Rattle.base.specs.Limits.{edgeLimit}
 use Rattle.graph.specs.declared.Network.{Network}
 use Rattle.graph.proofs.Stars.{differ-same}
 use Rattle.base.proofs.Sums.{sum-ext, sum-add, sum-zeros, sum-join}
-use Rattle.flow.specs.Arcs.{arcLimit, at, reverse, LaidTo, Laid, leaving, carried, capacity, Balanced}
+use Rattle.base.specs.Columns.{at}
+use Rattle.flow.specs.Arcs.{arcLimit, reverse, LaidTo, Laid, leaving, carried, capacity, Balanced}
 
 -- the edges are laid one by one
 pub laid-none : (g : Network) → LaidTo g 0 (replicate arcLimit 0)

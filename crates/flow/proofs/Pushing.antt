@@ -12,7 +12,8 @@ use Rattle.base.specs.Fold.{bit}
 use Rattle.graph.specs.Cut.{Side}
 use Rattle.base.specs.Limits.{vertexLimit}
 use Rattle.base.proofs.Sums.{sum-change}
-use Rattle.flow.specs.Arcs.{arcLimit, at, reverse, tail, head, leaving, carried, capacity, Balanced}
+use Rattle.base.specs.Columns.{at}
+use Rattle.flow.specs.Arcs.{arcLimit, reverse, tail, head, leaving, carried, capacity, Balanced}
 use Rattle.flow.specs.Search.{Link, Tree}
 use Rattle.flow.specs.Flow.{pushed, Sendable, Sent}
 use Rattle.flow.proofs.Reaching.{clock-most}

@@ -13,7 +13,8 @@ use Rattle.base.specs.Fold.{bit}
 use Rattle.base.specs.Limits.{vertexLimit}
 use Rattle.base.proofs.Bools.{bit-low}
 use Rattle.base.proofs.Sums.{sum-bound, sum-change}
-use Rattle.flow.specs.Arcs.{arcLimit, at, tail, head}
+use Rattle.base.specs.Columns.{at}
+use Rattle.flow.specs.Arcs.{arcLimit, tail, head}
 use Rattle.flow.specs.Search.{positive, reached, reachedCount, Link, Tree, Grown, Shut, Relaxed, Swept, Stuck}
 use Rattle.flow.specs.declared.Pair.{Pair}
 

@@ -16,7 +16,8 @@ use Rattle.graph.specs.declared.Network.{Network}
 use Rattle.base.proofs.Bools.{never}
 use Rattle.base.proofs.Sums.{sum-ext, sum-zeros, term-le}
 use Rattle.flow.specs.Apart.{Between, FourApart}
-use Rattle.flow.specs.Arcs.{arcLimit, at, tail, head, Laid, leaving, capacity, Balanced}
+use Rattle.base.specs.Columns.{at}
+use Rattle.flow.specs.Arcs.{arcLimit, tail, head, Laid, leaving, capacity, Balanced}
 use Rattle.flow.specs.Search.{positive, reached, reachedCount, Tree, Shut, Stuck, Arrived, Ends, Searched}
 use Rattle.flow.specs.Flow.{Sendable, Sent, Rounded}
 use Rattle.flow.specs.declared.Pair.{Pair}

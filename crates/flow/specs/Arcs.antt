@@ -5,7 +5,8 @@ use mathlib.Core.Bool.{Bool, true, false}
 use mathlib.Core.List.{List}
 use mathlib.Core.Path.{_≡_}
 use Prim.Native.Nat.{ℕ, _+_, _*_, _%_, _≤_, _<_}
-use lib.ListN.{length, getD}
+use lib.ListN.{length}
+use Rattle.base.specs.Columns.{at}
 use Rattle.base.specs.Fold.{sum}
 use Rattle.graph.specs.Network.{lowEnd, highEnd}
 use Rattle.graph.specs.Cut.{Side}
@@ -15,10 +16,6 @@ use Rattle.graph.specs.declared.Network.{Network}
 -- how many arcs there are at most
 abbrev pub arcLimit : ℕ
 arcLimit = 2 * edgeLimit
-
--- what a list has for an arc or a vertex
-abbrev pub at : List ℕ → ℕ → ℕ
-at l i = getD l i 0
 
 -- the arc of the same edge that runs the other way
 abbrev pub reverse : ℕ → ℕ

@@ -8,7 +8,8 @@ use Rattle.base.specs.Fold.{bit}
 use Rattle.graph.specs.Cut.{Side}
 use Rattle.base.specs.Limits.{vertexLimit}
 use Rattle.flow.specs.Apart.{Between}
-use Rattle.flow.specs.Arcs.{at, reverse, capacity, Balanced}
+use Rattle.base.specs.Columns.{at}
+use Rattle.flow.specs.Arcs.{reverse, capacity, Balanced}
 use Rattle.flow.specs.Search.{Trail}
 use Rattle.flow.specs.declared.Pair.{Pair}
 

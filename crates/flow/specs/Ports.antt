@@ -6,7 +6,8 @@ use Prim.Native.Nat.{ℕ, zero, suc, _+_, _*_}
 use lib.Dec.{eqb, ltb}
 use lib.ListN.{set, replicate}
 use Rattle.base.specs.Limits.{vertexLimit}
-use Rattle.flow.specs.Arcs.{arcLimit, at, tail, head}
+use Rattle.base.specs.Columns.{at}
+use Rattle.flow.specs.Arcs.{arcLimit, tail, head}
 
 -- how many ports a vertex has
 abbrev pub portLimit : ℕ

@@ -10,7 +10,8 @@ use lib.ListN.{length}
 use Rattle.base.specs.Fold.{sum, bit}
 use Rattle.graph.specs.Cut.{Side}
 use Rattle.base.specs.Limits.{vertexLimit}
-use Rattle.flow.specs.Arcs.{arcLimit, at, tail, head}
+use Rattle.base.specs.Columns.{at}
+use Rattle.flow.specs.Arcs.{arcLimit, tail, head}
 use Rattle.flow.specs.declared.Pair.{Pair}
 use Rattle.flow.specs.declared.search.Found.{Found}
 use Rattle.flow.specs.declared.search.Found.the-variants.{Sink, Nothing}

@@ -16,7 +16,8 @@ use Rattle.base.proofs.Bools.{eqb-self, eqb-no}
 use Rattle.base.proofs.Sums.{sum-change, term-le}
 use Rattle.graph.specs.Network.{kept}
 use Rattle.connection.specs.Walk.{Joins}
-use Rattle.forest.specs.Forest.{at, noPlace, TreeEdge, Trees}
+use Rattle.base.specs.Columns.{at}
+use Rattle.forest.specs.Forest.{noPlace, TreeEdge, Trees}
 use Rattle.forest.specs.Search.{entered, unplaced, unfinished}
 use Rattle.forest.specs.declared.Forest.{Forest}
 

@@ -9,7 +9,8 @@ use native.Mathlib.Decide.{ℕ-discrete}
 use Rattle.base.specs.Limits.{vertexLimit, edgeLimit}
 use Rattle.connection.specs.Incidence.{endLimit}
 use Rattle.connection.proofs.Tabling.{at-low, chain-within}
-use Rattle.forest.specs.Forest.{at, noPlace, Trees, DepthFirst}
+use Rattle.base.specs.Columns.{at}
+use Rattle.forest.specs.Forest.{noPlace, Trees, DepthFirst}
 use Rattle.forest.specs.Search.{entered, unfinished, Finished, Open, Met, Course, Searching}
 use Rattle.forest.specs.declared.Forest.{Forest}
 use Rattle.forest.proofs.Entering.{ended, ended-same, ended-other, place-left, Enters, placed-old}

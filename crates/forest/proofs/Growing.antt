@@ -14,7 +14,8 @@ use Rattle.base.proofs.Bools.{bit-low}
 use Rattle.base.proofs.Sums.{sum-bound}
 use Rattle.connection.specs.Incidence.{endLimit, farVertexOf, Chains}
 use Rattle.connection.specs.declared.ends.Incidence.{Incidence}
-use Rattle.forest.specs.Forest.{at, noPlace}
+use Rattle.base.specs.Columns.{at}
+use Rattle.forest.specs.Forest.{noPlace}
 use Rattle.forest.specs.Search.{entered, unplaced, Sized, Searching, Progress, advanced, work, Grown}
 use Rattle.forest.specs.declared.Forest.{Forest}
 use Rattle.forest.proofs.Passing.{v-below, less, passed-known, passed-new, place-free, new-keeps}

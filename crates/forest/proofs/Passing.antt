@@ -14,7 +14,8 @@ use Rattle.base.proofs.Sums.{sum-change}
 use Rattle.connection.specs.Incidence.{endLimit, vertexOf, farVertexOf, ListedEnd, Chained, first, behind}
 use Rattle.connection.specs.Walk.{Joins}
 use Rattle.connection.proofs.Tabling.{chain-within}
-use Rattle.forest.specs.Forest.{at, noPlace, Related}
+use Rattle.base.specs.Columns.{at}
+use Rattle.forest.specs.Forest.{noPlace, Related}
 use Rattle.forest.specs.Search.{entered, unfinished, Finished, Open, Met, Course, Searching, advanced, work}
 use Rattle.forest.specs.declared.Forest.{Forest}
 use Rattle.forest.proofs.Entering.{ended, ended-same, ended-before, order-old, count-new, room-left, Enters}

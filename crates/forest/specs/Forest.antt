@@ -5,15 +5,11 @@ use mathlib.Core.Bool.{Bool, true}
 use mathlib.Core.List.{List}
 use mathlib.Core.Path.{_≡_}
 use Prim.Native.Nat.{ℕ, _≤_, _<_}
-use lib.ListN.{getD}
+use Rattle.base.specs.Columns.{at}
 use Rattle.base.specs.Limits.{vertexLimit}
 use Rattle.graph.specs.Network.{kept}
 use Rattle.connection.specs.Walk.{Joins}
 use Rattle.forest.specs.declared.Forest.{Forest}
-
--- what stands in a column at i
-abbrev pub at : List ℕ → ℕ → ℕ
-at column i = getD column i 0
 
 -- no place, which a vertex has before the search meets it and a root has for its parent
 abbrev pub noPlace : ℕ

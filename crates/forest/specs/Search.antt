@@ -9,7 +9,8 @@ use lib.ListN.{length, set}
 use Rattle.base.specs.Fold.{sum, bit}
 use Rattle.base.specs.Limits.{vertexLimit, edgeLimit}
 use Rattle.connection.specs.Incidence.{endLimit, vertexOf, ListedEnd, Chained}
-use Rattle.forest.specs.Forest.{at, noPlace, Trees, Related}
+use Rattle.base.specs.Columns.{at}
+use Rattle.forest.specs.Forest.{noPlace, Trees, Related}
 use Rattle.forest.specs.declared.Forest.{Forest}
 
 -- a forest by its columns and the number of its places

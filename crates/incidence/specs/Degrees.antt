@@ -4,8 +4,12 @@ use Prim.Native.Nat.{ℕ, _+_}
 use lib.ListN.{getD, set}
 use Rattle.base.specs.Fold.{sum, tabulate}
 use Rattle.base.specs.Limits.{vertexLimit}
-use Rattle.graph.specs.Network.{endsAt}
+use Rattle.graph.specs.Network.{endsAt, degree}
 use Rattle.graph.specs.declared.Network.{Network}
+
+-- the degree of each vertex
+abbrev pub degreesOf : Network → List ℕ
+degreesOf g = tabulate vertexLimit (degree g)
 
 -- the degree of each vertex among the first k edges
 unfoldable pub degreesAmong : Network → ℕ → List ℕ

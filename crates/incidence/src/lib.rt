@@ -2,8 +2,7 @@
 mod degrees;
 mod partners;
 
-pub use degrees::Degrees;
-pub use degrees::degrees_of;
-pub use degrees::four_each;
+pub use degrees::all_four;
+pub use degrees::tally_edge;
 pub use partners::Partners;
 pub use partners::partners_at;

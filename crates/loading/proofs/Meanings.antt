@@ -7,7 +7,7 @@ use native.Mathlib.Omega.{arith}
 use native.Mathlib.Decide.{decLt}
 use native.Mathlib.Nat.{mul-le-mul-right}
 use lib.Dec.{ltb}
-use lib.ListN.{length, getD, drop, replicate, length-replicate, List·getD-append, List·getD-eq-default}
+use lib.ListN.{length, getD, replicate, length-replicate, List·getD-eq-default}
 use lib.IntN.{pos, natAbs}
 use borrow.Author.Tests.{ltb-true, lt-ltb}
 use Rattle.base.specs.Answer.{over}
@@ -15,17 +15,12 @@ use Rattle.base.specs.Fold.{sum, bit, tabulate}
 use Rattle.base.specs.Limits.{costLimit, edgeLimit, vertexLimit}
 use Rattle.base.proofs.Bools.{never}
 use Rattle.base.proofs.LimitLaws.{cost-within}
-use Rattle.base.proofs.Parts.{length-over}
+use Rattle.base.proofs.Parts.{length-over, over-at}
 use Rattle.base.proofs.Sums.{sum-ext, sum-ones, sum-bound, tabulate-length, tabulate-at}
 use Rattle.graph.specs.Network.{costOf, here}
 use Rattle.graph.specs.Sound.{Formed, Fresh, weight, Light}
 use Rattle.network_text.specs.Text.{Meaning, Valid}
 use Rattle.loading.specs.Loading.{stateOf, noEnds, noCosts, networkOf}
-
--- an element of the start of a column
-over-at : {A : Type 0} (xs old : List A) (d : A) (i : ℕ) → i < length xs → getD (over xs old) i d ≡ getD xs i d
-unfolding over
-over-at xs old d i h = List·getD-append xs (drop (length xs) old) d i h
 
 module _ {m : Meaning} (s : Valid m) where
   fits : 2 * m .vertices ≤ edgeLimit

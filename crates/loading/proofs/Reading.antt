@@ -3,17 +3,22 @@ use mathlib.Core.Path.{_≡_, refl, sym, _∙_, ap}
 use mathlib.Core.List.{List}
 use Prim.Native.Nat.{ℕ, _≤_, _<_}
 use native.Mathlib.Omega.{arith}
+use lib.ListN.{replicate}
 use Rattle.base.specs.Answer.{Answer, refused, answer, andThen}
+use Rattle.base.specs.Fold.{fold, tabulate}
+use Rattle.base.specs.Limits.{vertexLimit}
 use Rattle.base.specs.Refusals.{COST}
 use Rattle.base.proofs.Answers.{unless-refused, unless-next, unless-answered}
 use Rattle.base.proofs.Bools.{no-answer}
 use Rattle.base.proofs.Numbered.{Numbered, answered, unless-numbered, then-meeting}
+use Rattle.graph.specs.Network.{degree}
 use Rattle.graph.specs.declared.Network.{Network}
+use Rattle.incidence.specs.Degrees.{degreesOf}
 use Rattle.network_text.specs.Text.{Meaning, Valid, readNetwork}
 use Rattle.network_text.proofs.Head.{read-numbered}
 use Rattle.network_text.proofs.Meaning.{read-valid}
 use Rattle.loading.specs.Known.{Known, Ready}
-use Rattle.loading.specs.Loading.{stateOf, networkOf, loadNetwork, loadedOf, loadedAnswer}
+use Rattle.loading.specs.Loading.{stateOf, networkOf, loadNetwork, noNetwork, loadedOf, loadedAnswer}
 use Rattle.loading.specs.declared.Loaded.{Loaded}
 use Rattle.loading.proofs.Meanings.{loaded-fresh, loaded-light, low-long}
 
@@ -63,10 +68,9 @@ module _ (l : Loaded) where
   answer-numbered h = unless-numbered (l .refusal) (answer (l .network)) h (answered (l .network))
 
   -- a network that is loaded is loaded as it is
-  pub loaded-as-is : l .refusal ≤ 0 → l ≡ loadedOf (answer (l .network))
+  pub loaded-as-is : l .refusal ≤ 0 → l .degrees ≡ degreesOf (l .network) → l ≡ loadedOf (answer (l .network))
   unfolding loadedOf
-  loaded-as-is h =
-      let z : l .refusal ≡ 0 = omega arith in ap (λ k. record { refusal = k; network = l .network }) z
+  loaded-as-is h d = let z : l .refusal ≡ 0 = omega arith in rw (← z, ← d)
 
 -- where the network is answered, it is known
 pub ready-known : {l : Loaded} → Ready l → (g : Network) → loadedAnswer l ≡ answer g → Known g
@@ -77,6 +81,11 @@ ready-known {l} ready g e =
     rw (← x) (ready .known (w .0))
 
 -- ── an answer that is loaded ──
+
+-- where there is no network, no vertex has an edge
+pub no-degrees : replicate vertexLimit 0 ≡ degreesOf noNetwork
+unfolding noNetwork stateOf degree tabulate fold
+no-degrees = refl
 
 pub loaded-answer : (a : Answer Network) {top : ℕ} → Numbered top a → loadedAnswer (loadedOf a) ≡ a
 unfolding loadedOf
@@ -93,10 +102,19 @@ module _ (a : Answer Network) {top : ℕ} (n : Numbered top a) {r : Loaded} (e :
   pub loaded-refused : 0 < r .refusal → a ≡ refused (r .refusal)
   loaded-refused h = sym loaded-again ∙ answers-refusal r h
 
+loaded-degrees : (a : Answer Network) → loadedOf a .degrees ≡ degreesOf (loadedOf a .network)
+unfolding loadedOf
+loaded-degrees (refused k) = refl
+loaded-degrees (answer g) = refl
+
 -- it is ready, if its network is known
 pub answer-ready : (a : Answer Network) {top : ℕ} → Numbered top a → ((g : Network) → a ≡ answer g → Known g)
     → Ready (loadedOf a)
-answer-ready a n known = record { known = λ z. known (loadedOf a .network) (loaded-zero a n refl (omega arith)) }
+answer-ready a n known =
+    record {
+      known = λ z. known (loadedOf a .network) (loaded-zero a n refl (omega arith));
+      degrees = loaded-degrees a;
+    }
 
 -- and so is what a text loads
 pub load-ready : (t : List ℕ) {r : Loaded} → r ≡ loadedOf (loadNetwork t) → Ready r

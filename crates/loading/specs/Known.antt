@@ -5,6 +5,7 @@ use lib.ListN.{length}
 use Rattle.graph.specs.Sound.{Fresh, Light}
 use Rattle.base.specs.Limits.{fewestVertices, edgeLimit, vertexLimit}
 use Rattle.graph.specs.declared.Network.{Network}
+use Rattle.incidence.specs.Degrees.{degreesOf}
 use Rattle.loading.specs.declared.Loaded.{Loaded}
 
 pub record Known (g : Network) : Type 0 where
@@ -21,6 +22,7 @@ pub record Known (g : Network) : Type 0 where
   -- its column of lower ends is as long as the state's
   pub long : length (g .low) ≡ edgeLimit
 
--- what the services ask of what was loaded: where nothing is refused, the network is known
+-- what the services ask of what was loaded: where nothing is refused, the network is known, with its degrees
 pub record Ready (l : Loaded) : Type 0 where
   pub known : l .refusal ≡ 0 → Known (l .network)
+  pub degrees : l .degrees ≡ degreesOf (l .network)

@@ -9,6 +9,7 @@ use Rattle.network_text.specs.Text.{Meaning, readNetwork}
 use Rattle.base.specs.Fold.{tabulate}
 use Rattle.base.specs.Limits.{edgeLimit, vertexLimit}
 use Rattle.graph.specs.declared.Network.{Network}
+use Rattle.incidence.specs.Degrees.{degreesOf}
 use Rattle.loading.specs.declared.Loaded.{Loaded}
 
 -- a network with these columns, every vertex present
@@ -45,10 +46,10 @@ loadNetwork t = andThen (readNetwork t) (λ m. answer (networkOf m))
 unfoldable pub noNetwork : Network
 noNetwork = stateOf 0 0 noEnds noEnds noCosts
 
--- a refusal's number and no network, or 0 and the network
+-- a refusal's number and no network, or 0 and the network; and its degrees
 unfoldable pub loadedOf : Answer Network → Loaded
-loadedOf (refused k) = record { refusal = k; network = noNetwork }
-loadedOf (answer g) = record { refusal = 0; network = g }
+loadedOf (refused k) = record { refusal = k; network = noNetwork; degrees = degreesOf noNetwork }
+loadedOf (answer g) = record { refusal = 0; network = g; degrees = degreesOf g }
 
 -- what was loaded: the network, or the refusal
 unfoldable pub loadedAnswer : Loaded → Answer Network

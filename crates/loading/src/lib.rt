@@ -1,12 +1,7 @@
 // A network text read into the state.
 use base::EDGE_LIMIT;
-use base::FORM;
 use base::VERTEX_LIMIT;
 use graph::Network;
-use network_frames::ReadEdge;
-use network_frames::ReadHead;
-use network_frames::read_edge;
-use network_frames::read_head;
 ghost use mathlib.Core.Path.{_≡_};
 ghost use Prim.Native.Nat.{_≤_};
 ghost use lib.Dec.{ltb};
@@ -16,17 +11,21 @@ ghost use Rattle.base.specs.Fold.{tabulate};
 ghost use Rattle.base.specs.Limits.{vertexLimit};
 ghost use Rattle.loading.specs.Loading.{stateOf, noEnds, noCosts, loadNetwork, noNetwork, loadedOf};
 
+mod columns;
 mod list;
-mod state;
+mod pass;
 
+pub use columns::load_columns;
 pub use list::LoadedList;
 pub use list::load_list;
-pub use state::state_of;
+pub use pass::Pass;
+pub use pass::one_pass;
 
-// A refusal's number and no network, or 0 and the network.
+// A refusal's number and no network, or 0 and the network; and the degree of each vertex.
 pub struct Loaded {
     pub refusal: u8,
     pub network: Network,
+    pub degrees: [u16; VERTEX_LIMIT],
 }
 
 // Which vertices are present: the first so many.
@@ -72,38 +71,27 @@ pub fn refuse(refusal: u8) -> Loaded
     ensures { λ r. ⌜ r ≡ loadedOf (refused refusal) ⌝ }
 {
     let network = nothing();
-    Loaded { refusal, network }
+    Loaded {
+        refusal,
+        network,
+        degrees: [0; VERTEX_LIMIT],
+    }
 }
 
 // Reads a network text into the state: the text's first refusal, or the network.
 pub fn load(text: &[u8]) -> Loaded
     ensures { λ r. ⌜ r ≡ loadedOf (loadNetwork (now (text .entry))) ⌝ }
 {
-    let start = read_head(text);
-    let ReadHead::Read(head, first) = start else {
-        return refuse(start.refusal());
-    };
-    let vertices = head.vertices as usize;
-    let mut network = bare(vertices, head.reserved as usize);
-    let mut at = first;
-    let mut i = 0;
-    while i < 2 * vertices {
-        let read = read_edge(text, at, vertices, i);
-        let ReadEdge::Read(edge, next) = read else {
-            return refuse(read.refusal());
-        };
-        network.low[i] = edge.lower as u8;
-        network.high[i] = edge.higher as u8;
-        let c = edge.cost;
-        network.cost[i] = c;
-        at = next;
-        i += 1;
+    let read = one_pass(text);
+    let refusal = read.refusal;
+    if 0 < refusal {
+        return refuse(refusal);
     }
-    if at < text.len() {
-        return refuse(FORM);
-    }
+    let network = read.network;
+    let degrees = read.tally;
     Loaded {
-        refusal: 0,
+        refusal,
         network,
+        degrees,
     }
 }

@@ -20,7 +20,7 @@ use Rattle.frame.specs.declared.kinds.Edge.{Edge}
 use Rattle.frame.proofs.Runs.{next-read, only-form, run-next, run-broken, run-left, run-done}
 use Rattle.network_frames.specs.Frames.{edgeRefusal, found, readHead, edgeIn, readEdge}
 use Rattle.network_frames.proofs.Passed.{HeadPassed, EdgePassed, edge-passed, head-fine}
-use Rattle.network_text.specs.Text.{Meaning, Edges, next, interrupted, checked, meaningOf, inFrames}
+use Rattle.network_text.specs.Text.{Meaning, Edges, next, finished, interrupted, checked, meaningOf, inFrames}
 use Rattle.network_text.specs.Text.{edgesOf, readNetwork, readReply}
 use Rattle.network_text.specs.Columns.{Columns, NetworkRead}
 use Rattle.network_text.specs.declared.network.ReadNetwork.the-variants.{Read, Refused}
@@ -31,7 +31,7 @@ use Rattle.network_text.proofs.Edges.{edge-goes}
 use Rattle.network_text.proofs.Head.{edges-due}
 
 -- the edges that are left of a text, from a place and from the i-th on
-abbrev left : ℕ → List ℕ → ℕ → ℕ → Edges
+abbrev pub left : ℕ → List ℕ → ℕ → ℕ → Edges
 left n text at i = inFrames (framesOf (drop i (replicate (2 * n) EDGE)) (drop at text))
 
 rows-due : (n : ℕ) → length (replicate (2 * n) EDGE) ≡ 2 * n
@@ -96,6 +96,16 @@ module _ (n : ℕ) (text : List ℕ) (at i : ℕ) (h : i < 2 * n) where
           → EdgeFound n text at i e behind
       go (refused j) q y = no-answer (cc)
       go (answer (placed f place)) q y = own q _ refl y
+
+-- ── what stands behind the last edge: something, or nothing ──
+module _ (n : ℕ) (text : List ℕ) (at i : ℕ) (h : 2 * n ≤ i) where
+  pub left-over : at < length text → left n text at i ≡ interrupted
+  unfolding inFrames
+  left-over m = rw (run-left (replicate (2 * n) EDGE) text i at (omega (arith, rows-due n)) m)
+
+  pub none-left : length text ≤ at → left n text at i ≡ finished
+  unfolding inFrames
+  none-left m = rw (run-done (replicate (2 * n) EDGE) text i at (omega (arith, rows-due n)) m)
 
 -- ── edges in columns ──
 
@@ -172,16 +182,14 @@ module _ {text : List ℕ} {n r : ℕ} {low₀ high₀ : List ℕ} {cost₀ : Li
   -- the last edge is read: something is left over, or nothing
   module _ (l : 2 * n ≤ i) where
     pub reading-left : at < length text → readNetwork text ≡ refused FORM
-    unfolding inFrames
-    reading-left m =
-        passing-stop (w .edges) (rw (run-left (replicate (2 * n) EDGE) text i at (omega (arith, rows-due n)) m))
+    reading-left m = passing-stop (w .edges) (left-over n text at i l m)
 
     pub reading-end : length text ≤ at → AllRead text n r low₀ high₀ cost₀ low high cost
-    unfolding inFrames meaningOf
+    unfolding meaningOf
     reading-end m =
         record {
           meaning = meaningOf n r (w .passed);
-          is = passing-end (w .edges) (rw (run-done (replicate (2 * n) EDGE) text i at (omega (arith, rows-due n)) m));
+          is = passing-end (w .edges) (none-left n text at i l m);
           vertices = refl;
           reserved = refl;
           lows = w .lows;

@@ -3,8 +3,8 @@ use base::Reply;
 use claim::Acceptance;
 use claim::Planned;
 use loading::Loaded;
+use loading::load_columns;
 use loading::refuse;
-use loading::state_of;
 use network_text::ReadNetwork;
 use network_text::write_network;
 use table_text::LAID_LIMIT;
@@ -29,17 +29,13 @@ fn load_table(text: &[u8]) -> Loaded
         ReadNetwork::Refused(refusal) => refuse(refusal),
         ReadNetwork::Read { vertices, reserved } => {
             let edges = 2 * vertices;
-            let network = state_of(
+            load_columns(
                 vertices,
                 reserved,
                 &low[..edges],
                 &high[..edges],
                 &cost[..edges],
-            );
-            Loaded {
-                refusal: 0,
-                network,
-            }
+            )
         }
     }
 }

@@ -2,24 +2,26 @@
 use claim::Acceptance;
 use cuts::every_cut_four;
 use graph::Network;
-use incidence::four_each;
+use incidence::all_four;
 use loading::Loaded;
 use loading::load;
 use loading::refuse;
 ghost use mathlib.Core.Path.{_≡_};
 ghost use Rattle.graph.specs.Cut.{networkRefusal};
+ghost use Rattle.incidence.specs.Degrees.{degreesOf};
 ghost use Rattle.loading.specs.Known.{Known, Ready};
 ghost use Rattle.loading.specs.Loading.{loadedOf, loadedAnswer};
 ghost use Rattle.claim.specs.Services.{accepting, acceptNetwork, acceptanceOf};
 use base::CUT;
 use base::DEGREE;
+use base::VERTEX_LIMIT;
 
-// Refusals 6 and 7 of a network that reads, or 0.
-fn network_refusal(network: Network) -> u8
-    requires { ⌜ Known network ⌝ }
+// Refusals 6 and 7 of a network that reads and whose degrees are tallied, or 0.
+fn network_refusal(network: Network, degrees: &[u16; VERTEX_LIMIT]) -> u8
+    requires { ⌜ Known network × (now degrees ≡ degreesOf network) ⌝ }
     ensures { λ r. ⌜ r ≡ networkRefusal network ⌝ }
 {
-    if !four_each(network) {
+    if !all_four(degrees, network.vertices) {
         return DEGREE;
     }
     if !every_cut_four(network) {
@@ -38,7 +40,7 @@ pub fn accept(loaded: Loaded) -> Loaded
         return refuse(refusal);
     }
     let network = loaded.network;
-    let refusal = network_refusal(network);
+    let refusal = network_refusal(network, &loaded.degrees);
     if 0 < refusal {
         return refuse(refusal);
     }

@@ -9,6 +9,7 @@ use thinning::check_chain;
 use thinning::check_network;
 
 mod solver;
+mod tally;
 
 fn say(words: &[u8]) {
     io::write_all(STDOUT_FILENO, words);
@@ -189,6 +190,7 @@ fn square(text: &[u8]) {
 
 fn main() {
     networks();
+    tally::run();
     let printed =
         b"0100030000\n0200000000000100000007\n0200010000000100000004\n0200020000000200000001\n\
             0200030000000200000002\n0200040001000200000006\n0200050001000200000003\n";

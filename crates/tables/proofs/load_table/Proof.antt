@@ -52,23 +52,23 @@ mul-edges c = omega (arith, holds c .few)
 array-share-prefix-low : tie.Need-array-share-prefix-low
 array-share-prefix-low c = holds c .low .within
 
-slice-aggregate-state-of : tie.Need-slice-aggregate-state-of
-slice-aggregate-state-of c = sym (length-take-le _ _ (holds (c .before) .low .within))
+slice-aggregate-load-columns : tie.Need-slice-aggregate-load-columns
+slice-aggregate-load-columns c = sym (length-take-le _ _ (holds (c .before) .low .within))
 
 array-share-prefix-high : tie.Need-array-share-prefix-high
 array-share-prefix-high c = holds (c .before) .high .within
 
-slice-aggregate-state-of-2 : tie.Need-slice-aggregate-state-of-2
-slice-aggregate-state-of-2 c = sym (length-take-le _ _ (holds (c .before .before) .high .within))
+slice-aggregate-load-columns-2 : tie.Need-slice-aggregate-load-columns-2
+slice-aggregate-load-columns-2 c = sym (length-take-le _ _ (holds (c .before .before) .high .within))
 
 array-share-prefix-cost : tie.Need-array-share-prefix-cost
 array-share-prefix-cost c = holds (c .before .before) .cost .within
 
-slice-aggregate-state-of-3 : tie.Need-slice-aggregate-state-of-3
-slice-aggregate-state-of-3 c = sym (length-take-le _ _ (holds (c .before .before .before) .cost .within))
+slice-aggregate-load-columns-3 : tie.Need-slice-aggregate-load-columns-3
+slice-aggregate-load-columns-3 c = sym (length-take-le _ _ (holds (c .before .before .before) .cost .within))
 
-state-of-requires : tie.Need-state-of-requires
-state-of-requires c κs = let w = holds (c .before .before .before) in rw (stored-meant w) (w .valid)
+load-columns-requires : tie.Need-load-columns-requires
+load-columns-requires c κs = let w = holds (c .before .before .before) in rw (stored-meant w) (w .valid)
 
 returns : tie.Need-returns
 returns c =
@@ -78,10 +78,9 @@ returns c =
     c .refuse .ensures ∙ ap loadedOf (sym (load-refused _ _ none))
 
 returns-2 : tie.Need-returns-2
-unfolding loadedOf
 returns-2 c =
     let w = holds (c .before .before .before .before) in
-    rw (load-read _ _ (w .is), c .state-of .ensures, stored-meant w)
+    c .load-columns .ensures ∙ rw (load-read _ _ (w .is), stored-meant w)
 
 pub load-table-spec : {M : Type 1} → statement M
 load-table-spec =
@@ -96,11 +95,11 @@ load-table-spec =
     enum-known-vertices
     mul-edges
     array-share-prefix-low
-    slice-aggregate-state-of
+    slice-aggregate-load-columns
     array-share-prefix-high
-    slice-aggregate-state-of-2
+    slice-aggregate-load-columns-2
     array-share-prefix-cost
-    slice-aggregate-state-of-3
-    state-of-requires
+    slice-aggregate-load-columns-3
+    load-columns-requires
     returns
     returns-2)

@@ -5,13 +5,10 @@ use Rattle.examples.proofs.print.ports.Statement.{statement}
 use Rattle.examples.proofs.print.ports.Tie as tie
 
 abbrev Inv-loop : tie.InvT-loop
-Inv-loop degrees vertices v₀ v = v ≤ vertices
+Inv-loop vertices degrees v₀ v = v ≤ vertices
 
 abbrev μ-loop : tie.MeasureT-loop
-μ-loop degrees vertices v₀ v = vertices - v
-
-degrees-of-requires : tie.Need-degrees-of-requires Inv-loop μ-loop
-degrees-of-requires c κs = search needs
+μ-loop vertices degrees v₀ v = vertices - v
 
 slice-aggregate-text : tie.Need-slice-aggregate-text Inv-loop μ-loop
 slice-aggregate-text c = search needs
@@ -25,8 +22,8 @@ loop-holds c = search needs
 mul-number : tie.Need-mul-number Inv-loop μ-loop
 mul-number c = search needs
 
-element-copy-out-number : tie.Need-element-copy-out-number Inv-loop μ-loop
-element-copy-out-number c = search needs
+array-read-number : tie.Need-array-read-number Inv-loop μ-loop
+array-read-number c = search needs
 
 cast-number : tie.Need-cast-number Inv-loop μ-loop
 cast-number c = search needs
@@ -55,12 +52,11 @@ ports-spec =
     (tie.spec
     Inv-loop
     μ-loop
-    degrees-of-requires
     slice-aggregate-text
     text-requires
     loop-holds
     mul-number
-    element-copy-out-number
+    array-read-number
     cast-number
     number-requires
     add-v

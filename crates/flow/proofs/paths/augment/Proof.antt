@@ -2,7 +2,8 @@
 -- from number to lower number, until it comes to a source.
 use Prim.Native.Nat.{ℕ}
 use native.Mathlib.Omega.{arith}
-use Rattle.flow.specs.Arcs.{at, tail}
+use Rattle.base.specs.Columns.{at}
+use Rattle.flow.specs.Arcs.{tail}
 use Rattle.flow.specs.Search.{Link}
 use Rattle.flow.proofs.Pushing.{Partway, partway-none, partway-on, partway-sent, link-back, carries-back}
 use Rattle.flow.proofs.Pushing.{number-most}

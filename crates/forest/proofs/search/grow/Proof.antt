@@ -2,7 +2,8 @@
 use Prim.Native.Nat.{_+_, _*_, _<_}
 use native.Mathlib.Omega.{arith}
 use Rattle.base.specs.Limits.{vertexLimit}
-use Rattle.forest.specs.Forest.{at, noPlace}
+use Rattle.base.specs.Columns.{at}
+use Rattle.forest.specs.Forest.{noPlace}
 use Rattle.forest.specs.Search.{forest, Sized, Progress, Grown, work}
 use Rattle.forest.proofs.Growing.{rank, rank-most, grown-none, grown-on, progress-on, vertex-below, parent-less}
 use Rattle.forest.proofs.Growing.{grown-finished, grown-rest}

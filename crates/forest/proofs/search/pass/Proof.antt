@@ -4,7 +4,7 @@ use native.Mathlib.Omega.{arith}
 use borrow.Author.Needs.{needs}
 use Rattle.base.specs.Limits.{vertexLimit}
 use Rattle.connection.specs.Incidence.{farVertexOf}
-use Rattle.forest.specs.Forest.{at}
+use Rattle.base.specs.Columns.{at}
 use Rattle.forest.proofs.Growing.{vertex-below, turn-less, grown-known, new-place, grown-new}
 use Rattle.forest.proofs.search.pass.Statement.{statement}
 use Rattle.forest.proofs.search.pass.Tie as tie

@@ -2,7 +2,8 @@
 use Prim.Native.Nat.{ℕ, _-_, _≤_, _<_}
 use native.Mathlib.Omega.{arith}
 use native.Mathlib.Decide.{ℕ-discrete}
-use Rattle.forest.specs.Forest.{at, noPlace}
+use Rattle.base.specs.Columns.{at}
+use Rattle.forest.specs.Forest.{noPlace}
 use Rattle.forest.specs.Search.{forest, Sized, Grown}
 use Rattle.forest.proofs.Growing.{grown-none, grown-on, progress-on}
 use Rattle.forest.proofs.search.plant_all.Statement.{statement}

@@ -1,4 +1,4 @@
--- `incidence::degrees::Degrees::all_four` meets its contract: each vertex passed has degree 4.
+-- `incidence::degrees::all_four` meets its contract: each vertex passed has degree 4.
 use mathlib.Core.Bool.{true}
 use mathlib.Core.Path.{_≡_, refl, sym}
 use Prim.Native.Nat.{_-_, _≤_}
@@ -8,14 +8,14 @@ use lib.Dec.{eqb}
 use lib.ListN.{getD}
 use Rattle.base.specs.Fold.{fold, each}
 use Rattle.base.proofs.Sums.{each-more, each-false}
-use Rattle.incidence.proofs.degrees.Degrees.all_four.Statement.{statement}
-use Rattle.incidence.proofs.degrees.Degrees.all_four.Tie as tie
+use Rattle.incidence.proofs.degrees.all_four.Statement.{statement}
+use Rattle.incidence.proofs.degrees.all_four.Tie as tie
 
 abbrev Inv-loop : tie.InvT-loop
-Inv-loop vertices self v₀ v = (v ≤ vertices) × (each v (λ i. eqb (getD (self .at) i 0) 4) ≡ true)
+Inv-loop tally vertices v₀ v = (v ≤ vertices) × (each v (λ i. eqb (getD tally i 0) 4) ≡ true)
 
 abbrev μ-loop : tie.MeasureT-loop
-μ-loop vertices self v₀ v = vertices - v
+μ-loop tally vertices v₀ v = vertices - v
 
 loop-holds : tie.Need-loop-holds Inv-loop μ-loop
 unfolding fold
