@@ -1,16 +1,18 @@
 //! Prints how long the linked services and the second program take for the same inputs.
 //!
 //! `cargo run --release --offline` prints two tables and three lines about reading. The first table has the services
-//! that look at cuts: the core, the second program by the same method (`EveryFlow`: flows from one vertex to every other
-//! one) and by its faster one (`ContractedFlow`: one flow for a splitting). The second table has the audit of all edges,
-//! of half of them, which leave islands, and of none: both programs read the network and the list, and then make one
-//! depth-first search with low points, which is linear in the vertices and the listed edges.
+//! that look at cuts: the core, the second program by the same method (`EveryFlow`: flows from one vertex to every
+//! other one) and by its faster one (`ContractedFlow`: one flow for a splitting). The second table has the audit of all
+//! edges, of half of them, which leave islands, and of none: both programs read the network and the list, and then make
+//! one depth-first search with low points, which is linear in the vertices and the listed edges.
 //!
-//! The lines about reading have the longest texts: a network's columns, a network with its degrees, by a check that ends
-//! there, and a table. Beside the second program stands a reader of networks that is written for speed (`single_pass`).
+//! The lines about reading have the longest texts: a network's columns, a network with its degrees, by a check that
+//! ends there, and a table. Beside the second program stands a reader of networks that is written for speed
+//! (`single_pass`).
 //!
-//! A ratio says how many times the other program's time the core takes. Each time is the shortest of some runs, in which
-//! the programs take turns, so that a busy moment of the machine doesn't fall on one of them alone; none is asserted.
+//! A ratio says how many times the other program's time the core takes. Each time is the shortest of some runs, in
+//! which the programs take turns, so that a busy moment of the machine doesn't fall on one of them alone; none is
+//! asserted.
 
 use std::hint::black_box;
 use std::thread;
