@@ -1,12 +1,16 @@
 //! Prints how long the linked services and the second program take for the same inputs.
 //!
-//! `cargo run --release --offline` prints two tables and two lines about reading. The first table has the services that
-//! look at cuts: the core, the second program by the same method (`EveryFlow`: flows from one vertex to every other
-//! one) and by its faster one (`ContractedFlow`: one flow for a splitting). The second table has the audit of all edges
-//! and of half of them, which leave islands: both programs read the network and the list, and then make one depth-first
-//! search with low points, which is linear in the vertices and the listed edges.
+//! `cargo run --release --offline` prints two tables and three lines about reading. The first table has the services
+//! that look at cuts: the core, the second program by the same method (`EveryFlow`: flows from one vertex to every
+//! other one) and by its faster one (`ContractedFlow`: one flow for a splitting). The second table has the audit of all
+//! edges, of half of them, which leave islands, and of none: both programs read the network and the list, and then make
+//! one depth-first search with low points, which is linear in the vertices and the listed edges.
 //!
-//! A ratio says how many times the second program's time the core takes. Each time is the shortest of some runs, in
+//! The lines about reading have the longest texts: a network's columns, a network with its degrees, by a check that
+//! ends there, and a table. Beside the second program stands a reader of networks that is written for speed
+//! (`single_pass`).
+//!
+//! A ratio says how many times the other program's time the core takes. Each time is the shortest of some runs, in
 //! which the programs take turns, so that a busy moment of the machine doesn't fall on one of them alone; none is
 //! asserted.
 
@@ -16,18 +20,25 @@ use std::time::{Duration, Instant};
 
 use second::generate::{self, CostStyle, Family, ListStyle, Rng};
 use second::lengths::{LONGEST_NETWORK_TEXT, LONGEST_TABLE_TEXT};
-use second::refusal::BROKEN_TEXT;
+use second::refusal::{BROKEN_TEXT, NOT_FOUR_REGULAR};
+use second::texts::MOST_VERTICES;
 use second::{
-    audit, check_chain_by, check_network_by, plan_by, read_network, read_table, write_list, Method,
+    audit, check_chain_by, check_network, check_network_by, plan_by, read_network, read_table,
+    write_list, Method, Network,
 };
 use thinning::Refusal;
 
-const SIZES: [usize; 4] = [32, 64, 128, 256];
+mod single_pass;
+
+const SIZES: [usize; 4] = [32, 64, 128, MOST_VERTICES];
 const FAMILIES: [Family; 2] = [Family::TwoCycles, Family::PinchedNear];
 const SEED: u64 = 1;
 const RUNS: usize = 15;
 /// What takes a moment needs more runs to meet an undisturbed one.
 const SHORT_RUNS: usize = 2_000;
+/// What the lines about reading call the core's rivals.
+const SECOND: &str = "second";
+const SINGLE_PASS: &str = "single pass";
 /// Bytes of stack that are to be enough for 256 vertices; a deeper call would end the program.
 const STACK: usize = 2_000_000;
 
@@ -38,8 +49,9 @@ fn main() {
     heading("audit of", &["bridge search"]);
     on_every_network(audits);
     println!();
-    reading_a_network();
-    reading_a_table();
+    on_small_stack(reading_a_network);
+    on_small_stack(reading_a_network_and_degrees);
+    on_small_stack(reading_a_table);
 }
 
 /// The two lines above a table: what a line is about, and what the second program does.
@@ -58,6 +70,11 @@ fn heading(subject: &str, ways: &[&str]) {
     println!();
 }
 
+/// An accepted network of the given family and size.
+fn network(family: Family, vertices: usize) -> Network {
+    generate::network_of(&mut Rng::new(SEED), family, vertices, CostStyle::Anything)
+}
+
 /// A network that the programs are given.
 struct Given {
     family: Family,
@@ -67,9 +84,7 @@ struct Given {
 
 impl Given {
     fn new(family: Family, vertices: usize) -> Self {
-        let mut rng = Rng::new(SEED);
-        let network = generate::network_of(&mut rng, family, vertices, CostStyle::Anything);
-        let text = generate::text(&network);
+        let text = generate::text(&network(family, vertices));
         Given {
             family,
             vertices,
@@ -91,19 +106,25 @@ impl Given {
     }
 }
 
-/// Prints the lines of a table for each family and size, on a thread with a small stack and no more.
+/// Prints the lines of a table for each family and size.
 fn on_every_network(print_lines: fn(&Given)) {
     for family in FAMILIES {
         for vertices in SIZES {
             let given = Given::new(family, vertices);
-            thread::scope(|scope| {
-                thread::Builder::new()
-                    .stack_size(STACK)
-                    .spawn_scoped(scope, || print_lines(&given))
-                    .expect("a thread starts");
-            });
+            on_small_stack(|| print_lines(&given));
         }
     }
+}
+
+/// Prints lines on a thread with a small stack and no more. Where that stack starts within a page, which the times of
+/// copies on it depend on, is the same in every run; it isn't for the main thread.
+fn on_small_stack(print_lines: impl FnOnce() + Send) {
+    thread::scope(|scope| {
+        thread::Builder::new()
+            .stack_size(STACK)
+            .spawn_scoped(scope, print_lines)
+            .expect("a thread starts");
+    });
 }
 
 /// A line for each service that looks at cuts.
@@ -123,12 +144,17 @@ fn cut_services(given: &Given) {
     given.line("chain check", RUNS, [core, every, contracted]);
 }
 
-/// A line for the audit of all edges, and one for that of half of them, which leave islands.
+/// A line for the audit of all edges, one for that of half of them, which leave islands, and one for that of none,
+/// which is little more than reading.
 fn audits(given: &Given) {
     let (text, vertices) = (&given.text, given.vertices);
     let network = read_network(text).expect("it reads");
     let mut rng = Rng::new(SEED);
-    for (subject, size) in [("all edges", 2 * vertices), ("half of all", vertices)] {
+    for (subject, size) in [
+        ("all edges", 2 * vertices),
+        ("half of all", vertices),
+        ("no edges", 0),
+    ] {
         let edges = generate::list_of(&mut rng, &network, ListStyle::Size(size));
         let list = &write_list(vertices, &edges).expect("the list rises");
         let connected = audit(text, list).expect("both read").connected;
@@ -140,14 +166,44 @@ fn audits(given: &Given) {
 
 /// The longest network text.
 fn reading_a_network() {
-    let Given { text, .. } = Given::new(Family::TwoCycles, 256);
+    let network = network(Family::TwoCycles, MOST_VERTICES);
+    let text = generate::text(&network);
     assert_eq!(text.len(), LONGEST_NETWORK_TEXT);
+    let reserved = single_pass::load(&text).map(|loaded| loaded.reserved);
+    assert_eq!(reserved, Ok(network.reserved));
     reading(
         "a network",
         text.len(),
+        &[SECOND, SINGLE_PASS],
         [
             work(|| thinning::read_network(&text)),
             work(|| read_network(&text)),
+            work(|| single_pass::load(&text)),
+        ],
+    );
+}
+
+/// The longest network text with an end moved from the last vertex but one to the last: the check reads it all, counts
+/// three edges and five at these two, and looks at no cut.
+fn reading_a_network_and_degrees() {
+    let mut network = network(Family::TwoCycles, MOST_VERTICES);
+    let last = u16::try_from(MOST_VERTICES - 1).expect("there are few vertices");
+    let moved = network.edges.iter_mut().find(|edge| edge.high == last - 1);
+    moved.expect("an edge leads down from there").high = last;
+    let text = generate::text(&network);
+    assert_eq!(text.len(), LONGEST_NETWORK_TEXT);
+    assert_eq!(thinning::check_network(&text), Err(Refusal::Degree));
+    assert_eq!(check_network(&text), Err(NOT_FOUR_REGULAR));
+    let single_pass = single_pass::load_four_regular(&text).err();
+    assert_eq!(single_pass, Some(NOT_FOUR_REGULAR));
+    reading(
+        "a network and its degrees",
+        text.len(),
+        &[SECOND, SINGLE_PASS],
+        [
+            work(|| thinning::check_network(&text)),
+            work(|| check_network(&text)),
+            work(|| single_pass::load_four_regular(&text)),
         ],
     );
 }
@@ -156,7 +212,7 @@ fn reading_a_network() {
 /// looks at nothing else.
 fn reading_a_table() {
     let mut rng = Rng::new(SEED);
-    let table = generate::table_of(&mut rng, Family::Torus, 256, CostStyle::Anything);
+    let table = generate::table_of(&mut rng, Family::Torus, MOST_VERTICES, CostStyle::Anything);
     let mut text = generate::table_text(&table);
     assert_eq!(text.len(), LONGEST_TABLE_TEXT);
     text.push(b'0');
@@ -165,6 +221,7 @@ fn reading_a_table() {
     reading(
         "a table",
         text.len(),
+        &[SECOND],
         [
             work(|| thinning::check_table(&text)),
             work(|| read_table(&text)),
@@ -172,15 +229,19 @@ fn reading_a_table() {
     );
 }
 
-/// Prints how long both programs take to read so many bytes.
-fn reading(text: &str, bytes: usize, works: [Work; 2]) {
-    let [core, second] = shortest(SHORT_RUNS, works);
-    println!(
-        "reading {text}, {bytes} bytes: core {:.4} ms, second {:.4} ms, ratio {:.2}",
-        milliseconds(core),
-        milliseconds(second),
-        ratio(core, second),
+/// Prints how long the core takes to read so many bytes, and how long each of its rivals does, with its ratio.
+fn reading<const N: usize>(text: &str, bytes: usize, rivals: &[&str], works: [Work; N]) {
+    let times = shortest(SHORT_RUNS, works);
+    let (&core, others) = times.split_first().expect("the core is timed");
+    print!(
+        "reading {text}, {bytes} bytes: core {:.4} ms",
+        milliseconds(core)
     );
+    for (name, &time) in rivals.iter().zip(others) {
+        let ratio = ratio(core, time);
+        print!(", {name} {:.4} ms, ratio {ratio:.2}", milliseconds(time));
+    }
+    println!();
 }
 
 /// Something to be timed.
@@ -209,7 +270,7 @@ fn milliseconds(time: Duration) -> f64 {
     time.as_secs_f64() * 1_000.0
 }
 
-/// How many times the second program's time the core takes.
-fn ratio(core: Duration, second: Duration) -> f64 {
-    core.as_secs_f64() / second.as_secs_f64()
+/// How many times the other program's time the core takes.
+fn ratio(core: Duration, other: Duration) -> f64 {
+    core.as_secs_f64() / other.as_secs_f64()
 }

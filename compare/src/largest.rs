@@ -2,17 +2,20 @@
 //!
 //! All four services, and those on a table of each family and on one with the largest total, run
 //! on a thread with that stack, and the plan program runs as a process with it, each held to the
-//! second program. A call that goes deeper ends the program.
+//! second program. A call that goes deeper ends the program. Crowded networks, among them ones
+//! whose edges all run between two vertices, come with every fault of their texts and with none.
 
 use std::fmt::Debug;
-use std::thread;
+use std::thread::{self, Scope, ScopedJoinHandle};
 
-use second::generate::{self, aimed_chain, Aim, CostStyle, Family, ListStyle, Rng, TableAim};
+use second::generate::{
+    self, aimed_chain, Aim, CostStyle, Crowd, Family, ListStyle, Rng, TableAim,
+};
 use second::lengths::LONGEST_NETWORK_TEXT;
 use second::{read_kept, write_chain, Network, Plan, Table};
 
 use crate::difference::{Compared, Difference, Given, Text, Words};
-use crate::{chains, lists, networks, program, tables};
+use crate::{chains, crowded, lists, networks, program, tables};
 
 const VERTICES: usize = 256;
 const SEED: u64 = 1;
@@ -38,27 +41,42 @@ struct Case {
     plan: Plan,
 }
 
-/// Runs all families, a line for each, and says how many differences were met.
+/// Runs all families and crowds, a line for each, and says how many differences were met.
 pub fn run() -> u64 {
-    let (mut networks, mut differences) = (0, 0);
+    let (mut networks, mut crowded, mut differences) = (0, 0, 0);
     for family in Family::ALL {
-        let (mut names, mut met) = (Vec::new(), 0);
-        for (name, compared) in family_networks(family, &mut networks) {
-            if let Err(difference) = compared {
-                met += 1;
-                let report = difference.report(&format!("largest-{family:?}-{name}"));
-                println!("{report}");
-            }
-            names.push(name);
-        }
+        let compared = family_networks(family, &mut networks);
+        let (names, met) = reported(&family, compared);
         println!("{family:?}: {}: {met} differences", names.join(", "));
+        differences += met;
+    }
+    for crowd in Crowd::ALL {
+        let (names, met) = reported(&crowd, crowded_texts(crowd));
+        println!("{crowd:?}: {} texts: {met} differences", names.len());
+        crowded += names.len();
         differences += met;
     }
     let tables = Family::ALL.len();
     println!(
-        "{networks} networks and {tables} tables of {VERTICES} vertices, {differences} differences"
+        "{networks} networks, {tables} tables and {crowded} crowded texts of {VERTICES} vertices, \
+         {differences} differences"
     );
     differences
+}
+
+/// Reports the differences of a family or a crowd: the names of all that was compared, and how
+/// many differ.
+fn reported(group: &dyn Debug, all: Vec<(String, Compared)>) -> (Vec<String>, u64) {
+    let (mut names, mut met) = (Vec::new(), 0);
+    for (name, compared) in all {
+        if let Err(difference) = compared {
+            met += 1;
+            let report = difference.report(&format!("largest-{group:?}-{name}"));
+            println!("{report}");
+        }
+        names.push(name);
+    }
+    (names, met)
 }
 
 /// The networks of a family by name, with what they give, and counted.
@@ -67,15 +85,43 @@ fn family_networks(family: Family, counted: &mut usize) -> Vec<(String, Compared
         let threads = [Short::Chain, Short::Kept].map(|short| {
             let place = *counted;
             *counted += 1;
-            thread::Builder::new()
-                .stack_size(THREAD_STACK)
-                .spawn_scoped(scope, move || compare_network(family, short, place))
-                .expect("a thread starts")
+            on_small_stack(scope, move || compare_network(family, short, place))
         });
         threads
             .map(|thread| thread.join().expect("a comparison gives an answer"))
             .into()
     })
+}
+
+/// The texts of a crowded network by name, with what they give.
+fn crowded_texts(crowd: Crowd) -> Vec<(String, Compared)> {
+    thread::scope(|scope| {
+        let thread = on_small_stack(scope, move || compare_crowd(crowd));
+        thread.join().expect("a comparison gives an answer")
+    })
+}
+
+/// A thread with the small stack.
+fn on_small_stack<'scope, T: Send + 'scope>(
+    scope: &'scope Scope<'scope, '_>,
+    work: impl FnOnce() -> T + Send + 'scope,
+) -> ScopedJoinHandle<'scope, T> {
+    thread::Builder::new()
+        .stack_size(THREAD_STACK)
+        .spawn_scoped(scope, work)
+        .expect("a thread starts")
+}
+
+/// Compares everything about a crowded network, with each fault behind its crowd and with none.
+fn compare_crowd(crowd: Crowd) -> Vec<(String, Compared)> {
+    let mut rng = Rng::new(SEED);
+    let cases = crowded::cases(&mut rng, crowd, VERTICES);
+    let compared = cases.iter().enumerate().map(|(place, case)| {
+        let services = crowded::services(&mut rng, case);
+        let compared = services.and_then(|()| program::plan_on_stack(&case.text, PROGRAM_STACK));
+        (format!("{:?}-{place}", case.fault), compared)
+    });
+    compared.collect()
 }
 
 /// Compares everything about one network, and says which it was. Styles of costs take turns.

@@ -3,7 +3,7 @@
 //! `compare ROUNDS SEED` runs so many rounds; round `k` takes the seed `SEED + k`, which is
 //! printed with a difference, so that `compare 1 SEED` shows it again. Without numbers it
 //! is 2,000 rounds from seed 1. `compare largest` runs networks and tables of 256 vertices, of
-//! every family, on a stack of 2 MB.
+//! every family, and crowded networks of that size, on a stack of 2 MB.
 //!
 //! What differs is written to a file of its own in `target/compare`: what was given, what is
 //! due by the second program, and what the core answered.
@@ -16,6 +16,7 @@ use arguments::{Work, USAGE};
 mod arguments;
 mod buffers;
 mod chains;
+mod crowded;
 mod difference;
 mod largest;
 mod lists;

@@ -44,7 +44,7 @@ pub fn texts(rng: &mut Rng) -> Compared {
     let text = any_text(rng);
     check(&text)?;
     plan(rng, &text)?;
-    read(rng, &text)
+    read(rng, &text, false)
 }
 
 /// The network check.
@@ -134,7 +134,8 @@ pub fn judge(service: &'static str, network: &[u8], kept: &[u8]) -> Compared {
     })
 }
 
-fn read(rng: &mut Rng, text: &[u8]) -> Compared {
+/// The reader, with buffers of every length or called seldom, as [`lengths`] has it.
+pub fn read(rng: &mut Rng, text: &[u8], seldom: bool) -> Compared {
     let (network, refusal) = match second::read_network(text) {
         Ok(network) => (network, None),
         Err(refusal) => (nothing(), Some(refusal)),
@@ -143,7 +144,7 @@ fn read(rng: &mut Rng, text: &[u8]) -> Compared {
     let high_due: Vec<u16> = network.edges.iter().map(|edge| edge.high).collect();
     let cost_due: Vec<i64> = network.edges.iter().map(|edge| edge.cost).collect();
     let due = due_length(rng, refusal.is_none().then_some(&low_due[..]));
-    for lengths in lengths(rng, [due; 3], false) {
+    for lengths in lengths(rng, [due; 3], seldom) {
         let mut low = Lent::new(rng, lengths[0]);
         let mut high = Lent::new(rng, lengths[1]);
         let mut cost = Lent::new(rng, lengths[2]);

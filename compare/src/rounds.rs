@@ -6,13 +6,13 @@ use std::panic::{self, AssertUnwindSafe};
 use second::generate::Rng;
 
 use crate::difference::{Compared, Difference, Words};
-use crate::{chains, lists, networks, program, tables, vectors};
+use crate::{chains, crowded, lists, networks, program, tables, vectors};
 
 /// A part of a round and its name.
 type Part = (&'static str, fn(&mut Rng) -> Compared);
 
 /// New parts stand last, so that those before them keep their numbers.
-const PARTS: [Part; 14] = [
+const PARTS: [Part; 15] = [
     ("program", program::plan),
     ("network-texts", networks::texts),
     ("network-columns", networks::columns),
@@ -27,6 +27,7 @@ const PARTS: [Part; 14] = [
     ("table-texts", tables::texts),
     ("table-vectors", vectors::tables),
     ("half-built-audits", lists::half_built_audits),
+    ("crowded-networks", crowded::texts),
 ];
 
 /// Runs all rounds, and says how many differences were met.
@@ -155,5 +156,20 @@ mod tests {
             }
         }
         assert_eq!(met, [SORTS, SORTS].map(BTreeSet::from));
+    }
+
+    /// What the check of a crowded network answers: for a fault of its text, and for the crowd alone.
+    const CROWDED_ANSWERS: [u8; 4] = [1, 4, 5, 6];
+
+    #[test]
+    fn every_round_has_crowded_networks_of_every_answer() {
+        for (part, mut rng) in (1..=40).flat_map(parts) {
+            if part.0 == "crowded-networks" {
+                let cases = crowded::any_crowd(&mut rng);
+                let answers = cases.iter().map(|case| second::check_network(&case.text));
+                let met: BTreeSet<u8> = answers.map(|answer| answer.err().unwrap_or(0)).collect();
+                assert_eq!(met, BTreeSet::from(CROWDED_ANSWERS));
+            }
+        }
     }
 }

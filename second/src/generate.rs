@@ -4,6 +4,7 @@
 
 mod chains;
 mod costs;
+mod crowded;
 mod damage;
 mod lists;
 mod meanings;
@@ -13,6 +14,7 @@ mod tables;
 
 pub use chains::{aimed_chain, chain_by_rule, changed_chain, Aim, Aimed};
 pub use costs::CostStyle;
+pub use crowded::{crowded_network, faulty_text, Crowd, FrameFault, FEWEST_CROWDING};
 pub use damage::{damage, Damage};
 pub use lists::{aimed_list, list, list_of, ListStyle};
 pub use meanings::{chain_columns, list_meaning, network_columns, ChainColumns, NetworkColumns};

@@ -67,3 +67,10 @@ impl CostStyle {
         }
     }
 }
+
+/// A cost beyond a limit: the next one, or the furthest that four bytes can say.
+pub(super) fn beyond_limits(rng: &mut Rng) -> i64 {
+    let next = COST_LIMIT + 1;
+    let furthest = i64::from(i32::MAX);
+    rng.pick(&[next, -next, furthest, -furthest - 1])
+}

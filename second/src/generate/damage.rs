@@ -158,11 +158,14 @@ pub fn damage(rng: &mut Rng, text: &[u8]) -> Vec<u8> {
     damaged
 }
 
+/// Bytes that are neither digits nor line feeds.
+pub(super) const IN_NO_LINE: &[u8; 8] = b"AFg \r-\x00\xff";
+
 /// Breaks a line of a text that reads, so that the reader refuses its form there.
 pub(super) fn break_line(rng: &mut Rng, text: &mut Vec<u8>) {
     let at = rng.below(text.len());
     match rng.below(4) {
-        0 => text[at] = rng.pick(b"AFg \r-\x00\xff"),
+        0 => text[at] = rng.pick(IN_NO_LINE),
         1 => text.insert(at, rng.pick(b"0f\n\r")),
         2 => {
             text.remove(at);

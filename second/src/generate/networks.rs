@@ -1,5 +1,6 @@
 //! Families of networks: accepted ones, and ones that the check refuses.
 
+use super::costs::beyond_limits;
 use super::{damage, CostStyle, Rng};
 use crate::cuts::Multigraph;
 use crate::lines::{EDGE, HEAD};
@@ -77,7 +78,7 @@ impl Family {
     }
 }
 
-type Ends = Vec<(usize, usize)>;
+pub(super) type Ends = Vec<(usize, usize)>;
 
 fn two_cycles(rng: &mut Rng, vertices: usize) -> Ends {
     let mut edges = Ends::new();
@@ -346,17 +347,22 @@ pub fn dress(rng: &mut Rng, graph: &Multigraph, style: CostStyle) -> Network {
     };
     let edges = order.iter().zip(costs).map(|(&place, cost)| {
         let (a, b) = graph.edges[place];
-        let name = |w: usize| u16::try_from(names[w]).expect("there are few vertices");
-        Edge {
-            low: name(a).min(name(b)),
-            high: name(a).max(name(b)),
-            cost,
-        }
+        edge_between((names[a], names[b]), cost)
     });
     Network {
         vertices: graph.vertices,
         reserved: rng.below(count),
         edges: edges.collect(),
+    }
+}
+
+/// An edge between two vertices, given in any order.
+pub(super) fn edge_between((a, b): (usize, usize), cost: i64) -> Edge {
+    let number = |w: usize| u16::try_from(w).expect("there are few vertices");
+    Edge {
+        low: number(a.min(b)),
+        high: number(a.max(b)),
+        cost,
     }
 }
 
@@ -466,11 +472,7 @@ pub fn aimed_network(rng: &mut Rng, aim: NetworkAim, vertices: usize) -> (Vec<u8
         NetworkAim::End => fields[2] = rng.pick(&[as_field(vertices), 256, 65_535]),
         NetworkAim::EndOrder if rng.once_in(2) => fields[1] = fields[2],
         NetworkAim::EndOrder => fields.swap(1, 2),
-        NetworkAim::Cost => {
-            let beyond = COST_LIMIT + 1;
-            let furthest = i64::from(i32::MAX);
-            fields[3] = rng.pick(&[beyond, -beyond, furthest, -furthest - 1]);
-        }
+        NetworkAim::Cost => fields[3] = beyond_limits(rng),
         NetworkAim::Degree | NetworkAim::Cut => unreachable!("handled above"),
     }
     if matches!(aim, NetworkAim::EdgeNumber | NetworkAim::End) && rng.once_in(3) {

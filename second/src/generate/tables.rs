@@ -2,6 +2,7 @@
 
 use std::collections::BTreeMap;
 
+use super::costs::beyond_limits;
 use super::damage::break_line;
 use super::networks::two_below;
 use super::{damage, dress, network_of, CostStyle, Family, Rng, Shapeless};
@@ -257,9 +258,7 @@ fn wrong_span(rng: &mut Rng, aim: TableAim, mut table: Table) -> Vec<u8> {
         spans[place].weight = rng.pick(&[0, MOST_WEIGHT + 1, MOST_WEIGHT + 2, 255]);
     }
     if aim == TableAim::Cost || rng.once_in(3) {
-        let beyond = COST_LIMIT + 1;
-        let furthest = i64::from(i32::MAX);
-        spans[place].cost = rng.pick(&[beyond, -beyond, furthest, -furthest - 1]);
+        spans[place].cost = beyond_limits(rng);
     }
     let text = frames(&table, table.spans.len());
     damaged_behind(rng, text, lengths::table_text(place + 1))
