@@ -7,19 +7,20 @@ use native.Mathlib.Omega.{arith}
 use borrow.Author.Tests.{eqb-true}
 use lib.Dec.{eqb}
 use lib.ListN.{length, getD, replicate, length-map}
-use lib.IntN.{ℤ}
-use Rattle.base.specs.Answer.{over}
+use lib.IntN.{pos}
+use Rattle.base.specs.Columns.{at}
 use Rattle.base.specs.Fold.{sum, bit, tabulate, fold}
 use Rattle.base.specs.Limits.{vertexLimit}
 use Rattle.base.proofs.Bools.{bit-low}
 use Rattle.base.proofs.Parts.{over-at}
 use Rattle.base.proofs.Sums.{sum-ext, sum-first, tabulate-length, tabulate-at, tabulate-is}
 use Rattle.frame.specs.declared.kinds.Edge.{Edge}
-use Rattle.graph.specs.Network.{endsAt, degree}
+use Rattle.graph.specs.Network.{lowEnd, highEnd, costOf, endsAt, degree, touches}
 use Rattle.graph.specs.declared.Network.{Network}
 use Rattle.incidence.specs.Degrees.{degreesOf, endCounted}
 use Rattle.incidence.proofs.Tally.{tally-below, tally-next}
-use Rattle.loading.specs.Loading.{stateOf, noEnds}
+use Rattle.network_text.specs.Text.{Valid, meaningOf}
+use Rattle.loading.specs.Loading.{stateOf, noEnds, noCosts, networkOf}
 use Rattle.loading.specs.Pass.{edgesAt, tallyOf}
 
 -- an edge with two ends is counted once for each
@@ -59,44 +60,65 @@ pub counted-most : (es : List Edge) (v : ℕ) → getD (tallyOf es) v 0 ≤ leng
 unfolding tallyOf
 counted-most es = tally-below (λ v. edgesAt v es) (length es) (λ v. at-most v es)
 
--- ── the tally of a network's edges ──
+-- ── the tally of the edges of a network ──
 
--- how many ends the i-th of some edges has at a vertex
-abbrev ends : ℕ → List Edge → ℕ → ℕ
-ends v es i =
-    bit (eqb (getD (map (λ e. e .lower) es) i 0) v) + bit (eqb (getD (map (λ e. e .higher) es) i 0) v)
-
--- each of some edges has two ends
-abbrev pub Rising : List Edge → Type 0
-Rising es =
-    (i : ℕ) → i < length es → getD (map (λ e. e .lower) es) i 0 < getD (map (λ e. e .higher) es) i 0
-
-ends-sum : (v : ℕ) (es : List Edge) → Rising es → edgesAt v es ≡ sum (length es) (ends v es)
+-- how many of some edges are at a vertex, by their columns
+columns-sum : (v : ℕ) (es : List Edge)
+    → edgesAt v es
+    ≡ sum (length es)
+    (λ i. bit (eqb (getD (map (λ e. e .lower) es) i 0) v || eqb (getD (map (λ e. e .higher) es) i 0) v))
 unfolding edgesAt fold
-ends-sum v [] rising = refl
-ends-sum v (e ∷ es) rising =
-    rw (two-ends (e .lower) (e .higher) v (rising 0 (omega arith)), ends-sum v es (λ i l. rising (suc i) (omega arith)))
-    (sym (sum-first (length es) (ends v (e ∷ es))))
+columns-sum v [] = refl
+columns-sum v (e ∷ es) = rw (columns-sum v es) (sym (sum-first (length es) _))
 
--- the degrees of the network that has these edges and no others
-pub all-counted : (n r : ℕ) (cost : List ℤ) (es : List Edge) → length es ≡ 2 * n → Rising es
-    → tallyOf es
-    ≡ degreesOf
-    (stateOf n r (over (map (λ e. e .lower) es) noEnds) (over (map (λ e. e .higher) es) noEnds) cost)
-unfolding tallyOf
-all-counted n r cost es count rising =
-    tabulate-is vertexLimit (degree g) 0 (tabulate vertexLimit (λ v. edgesAt v es))
-    (tabulate-length vertexLimit (λ v. edgesAt v es))
-    (λ v l. tabulate-at vertexLimit (λ w. edgesAt w es) 0 v l ∙ ends-sum v es rising ∙ at v)
-  where
-    g : Network
-    g = stateOf n r (over (map (λ e. e .lower) es) noEnds) (over (map (λ e. e .higher) es) noEnds) cost
+module _ (n r : ℕ) (es : List Edge) where
+  -- the network that has these edges, each at its number
+  abbrev g : Network
+  g = networkOf (meaningOf n r es)
 
-    at : (v : ℕ) → sum (length es) (ends v es) ≡ degree g v
-    at v = unfold stateOf degree endsAt in
-        rw count
-        (sum-ext (2 * n) _ _
-        (λ i l. rw (
-          over-at (map (λ e. e .lower) es) noEnds 0 i (rw length-map (omega arith)),
-          over-at (map (λ e. e .higher) es) noEnds 0 i (rw length-map (omega arith)),
-        )))
+  pub low-read : (i : ℕ) → i < length es → lowEnd g i ≡ getD (map (λ e. e .lower) es) i 0
+  unfolding networkOf meaningOf stateOf
+  low-read i l = over-at (map (λ e. e .lower) es) noEnds 0 i (rw length-map l)
+
+  pub high-read : (i : ℕ) → i < length es → highEnd g i ≡ getD (map (λ e. e .higher) es) i 0
+  unfolding networkOf meaningOf stateOf
+  high-read i l = over-at (map (λ e. e .higher) es) noEnds 0 i (rw length-map l)
+
+  pub cost-read : (i : ℕ) → i < length es → costOf g i ≡ getD (map (λ e. e .cost) es) i (pos 0)
+  unfolding networkOf meaningOf stateOf
+  cost-read i l = over-at (map (λ e. e .cost) es) noCosts (pos 0) i (rw length-map l)
+
+  touched : (v : ℕ) → edgesAt v es ≡ sum (length es) (λ e. bit (touches g v e))
+  unfolding touches
+  touched v = columns-sum v es ∙ sum-ext (length es) _ _ (λ i l. rw (low-read i l, high-read i l))
+
+  pub counted-at : (v : ℕ) → v < vertexLimit → at (tallyOf es) v ≡ sum (length es) (λ e. bit (touches g v e))
+  unfolding tallyOf
+  counted-at v l = tabulate-at vertexLimit (λ w. edgesAt w es) 0 v l ∙ touched v
+
+  -- all edges that are due
+  module _ (s : Valid (meaningOf n r es)) where
+    count : length es ≡ 2 * n
+    unfolding meaningOf
+    count = sym (length-map es (λ e. e .lower)) ∙ s .low-count
+
+    rises : (i : ℕ) → i < length es → lowEnd g i < highEnd g i
+    unfolding meaningOf
+    rises i l = rw (low-read i l, high-read i l) (s .rising i (omega (arith, count)))
+
+    edges-are : g .edges ≡ length es
+    unfolding networkOf stateOf meaningOf
+    edges-are = sym count
+
+    degree-is : (v : ℕ) → sum (length es) (λ e. bit (touches g v e)) ≡ degree g v
+    unfolding degree endsAt touches
+    degree-is v =
+        rw edges-are (sum-ext (length es) _ _ (λ i l. two-ends (lowEnd g i) (highEnd g i) v (rises i l)))
+
+    -- their tally has the degrees
+    pub all-counted : tallyOf es ≡ degreesOf g
+    unfolding tallyOf
+    all-counted =
+        tabulate-is vertexLimit (degree g) 0 (tabulate vertexLimit (λ v. edgesAt v es))
+        (tabulate-length vertexLimit (λ v. edgesAt v es))
+        (λ v l. tabulate-at vertexLimit (λ w. edgesAt w es) 0 v l ∙ touched v ∙ degree-is v)

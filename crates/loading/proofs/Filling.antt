@@ -19,7 +19,7 @@ use Rattle.graph.specs.Network.{lowEnd, highEnd}
 use Rattle.graph.specs.declared.Network.{Network}
 use Rattle.incidence.specs.Degrees.{degreesOf, degreesAmong, endCounted}
 use Rattle.incidence.proofs.Tally.{no-edge, one-more-edge, all-edges, degrees-below}
-use Rattle.network_text.specs.Text.{Meaning, Valid}
+use Rattle.network_text.specs.Text.{Meaning, Valid, meaningOf}
 use Rattle.network_frames.specs.Frames.{found, readEdge}
 use Rattle.loading.specs.Loading.{stateOf, noEnds, noCosts, networkOf, loadedOf}
 use Rattle.loading.specs.Pass.{Run, onward, runOf, tallyOf, passOver}
@@ -103,7 +103,7 @@ module _ {text : List ℕ} {n r first : ℕ} {g : Network} {tally : List ℕ} {a
       ≡ passOver (record { vertices = n; reserved = r }) (runOf text n (2 * n) 0 first)
 
   comes : {k : ℕ} → runOf text n (2 * n - i) i at ≡ record { edges = []; refusal = k; place = at } → Comes k
-  unfolding passOver
+  unfolding passOver networkOf meaningOf
   comes x =
       rw (
         w .run,

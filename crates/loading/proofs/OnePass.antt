@@ -1,13 +1,17 @@
 -- What is owed of the pass over a network text.
-use mathlib.Core.List.{List, [], map}
+use mathlib.Core.List.{List, []}
 use mathlib.Core.Path.{_≡_, refl, sym, _∙_, ap}
 use Prim.Native.Nat.{ℕ, zero, suc, _*_, _≤_, _<_}
+use native.Mathlib.Nat.{zero-add}
 use native.Mathlib.Omega.{arith}
-use lib.ListN.{length, getD, length-map}
+use lib.ListN.{length}
 use Rattle.base.specs.Answer.{Answer, refused, answer, andThen, unless}
-use Rattle.base.specs.Limits.{edgeLimit}
+use Rattle.base.specs.Columns.{at}
+use Rattle.base.specs.Fold.{fold, sum, bit}
+use Rattle.base.specs.Limits.{edgeLimit, vertexLimit}
 use Rattle.base.proofs.Answers.{then-refused, unless-refused, unless-next}
 use Rattle.frame.specs.declared.kinds.Head.{Head}
+use Rattle.graph.specs.Network.{touches}
 use Rattle.incidence.specs.Degrees.{degreesOf}
 use Rattle.network_frames.specs.Frames.{Found, found, readHead}
 use Rattle.network_frames.proofs.Passed.{head-fine}
@@ -15,12 +19,12 @@ use Rattle.network_text.specs.Text.{Meaning, meaningOf, readNetwork}
 use Rattle.network_text.proofs.Head.{read-numbered, head-refused}
 use Rattle.network_text.proofs.Meaning.{read-valid}
 use Rattle.loading.specs.Loading.{networkOf, loadNetwork, loadedOf}
-use Rattle.loading.specs.OnePass.{OnePass}
-use Rattle.loading.specs.Pass.{runOf, passOver, passBehind, passOf}
+use Rattle.loading.specs.OnePass.{frameOf, Frames, OnePass}
+use Rattle.loading.specs.Pass.{Run, runOf, passOver, passBehind, passOf}
 use Rattle.loading.specs.declared.Loaded.{Loaded}
 use Rattle.loading.specs.declared.pass.Pass.{Pass}
-use Rattle.loading.proofs.Counting.{counted-most, all-counted}
-use Rattle.loading.proofs.Runs.{run-decides, run-few}
+use Rattle.loading.proofs.Counting.{counted-most, low-read, high-read, cost-read, counted-at, all-counted}
+use Rattle.loading.proofs.Runs.{nth, run-decides, ran}
 
 module _ (t : List ℕ) where
   -- a head that is refused has a number
@@ -34,7 +38,7 @@ module _ (t : List ℕ) where
   then-unless (suc k) m f = refl
 
   as-read : loadNetwork t ≡ unless (passOf t .refusal) (answer (passOf t .network))
-  unfolding loadNetwork passOf passBehind passOver networkOf meaningOf
+  unfolding loadNetwork passOf passBehind passOver
   as-read = by-head (readHead t) refl
     where
       by-head : (a : Answer (Found Head)) → a ≡ readHead t
@@ -48,34 +52,73 @@ module _ (t : List ℕ) where
           (then-unless (run .refusal) (meaningOf (h .vertices) (h .reserved) (run .edges)) networkOf)
 
   degrees : passOf t .refusal ≡ 0 → passOf t .tally ≡ degreesOf (passOf t .network)
-  unfolding passOf passBehind passOver meaningOf
+  unfolding passOf passBehind passOver
   degrees = by-head (readHead t) refl
     where
       by-head : (a : Answer (Found Head)) → a ≡ readHead t → passBehind t a .refusal ≡ 0
           → passBehind t a .tally ≡ degreesOf (passBehind t a .network)
       by-head (refused k) x z = absurd (omega (arith, numbered x))
       by-head (answer (found h first)) x z =
-          let es = runOf t (h .vertices) (2 * h .vertices) 0 first .edges in
-          let v = read-valid t _ (run-decides t x ∙ unless-next _ _ (omega (arith, z))) in
-          let count : length es ≡ 2 * h .vertices = sym (length-map es (λ e. e .lower)) ∙ v .low-count in
-          all-counted (h .vertices) (h .reserved) _ es count (λ i l. v .rising i (omega (arith, l, count)))
+          all-counted (h .vertices) (h .reserved) _
+          (read-valid t _ (run-decides t x ∙ unless-next _ _ (omega (arith, z))))
 
-  at-most : (v : ℕ) → getD (passOf t .tally) v 0 ≤ passOf t .read
-  unfolding passOf passBehind passOver
-  at-most v = by-head (readHead t)
+  counted : (v : ℕ) → v < vertexLimit
+      → at (passOf t .tally) v ≡ sum (passOf t .read) (λ e. bit (touches (passOf t .network) v e))
+  unfolding passOf passBehind passOver fold
+  counted v l = by-head (readHead t)
     where
-      by-head : (a : Answer (Found Head)) → getD (passBehind t a .tally) v 0 ≤ passBehind t a .read
-      by-head (refused k) = counted-most [] v
-      by-head (answer (found h first)) = counted-most _ v
+      by-head : (a : Answer (Found Head))
+          → at (passBehind t a .tally) v
+          ≡ sum (passBehind t a .read) (λ e. bit (touches (passBehind t a .network) v e))
+      by-head (refused k) = counted-at 0 0 [] v l
+      by-head (answer (found h first)) = counted-at (h .vertices) (h .reserved) _ v l
 
-  few : passOf t .read ≤ edgeLimit
+  module _ (h : Head) (first : ℕ) (x : readHead t ≡ answer (found h first)) where
+    abbrev run : Run
+    run = runOf t (h .vertices) (2 * h .vertices) 0 first
+
+    pass-is : passOf t ≡ passOver h run
+    unfolding passOf passBehind
+    pass-is = rw x
+
+    -- an edge of the network is the frame that was read
+    frame-is : (i : ℕ) → i < length (run .edges)
+        → nth (run .edges) i i ≡ frameOf (networkOf (meaningOf (h .vertices) (h .reserved) (run .edges))) i
+    frame-is i l =
+        let n = h .vertices in
+        let r = h .reserved in
+        rw (low-read n r (run .edges) i l, high-read n r (run .edges) i l, cost-read n r (run .edges) i l)
+
+    frames : Frames t h first
+    unfolding passOver
+    frames =
+        let w = ran t (h .vertices) (2 * h .vertices) 0 first in
+        record {
+          few = rw pass-is (w .few);
+          read = λ i l. rw pass-is
+              (rw (← frame-is i (rw pass-is at l)) (rw zero-add at (w .read i (rw pass-is at l))));
+          refuses = λ l. rw pass-is (rw zero-add at (w .refuses (rw pass-is at l)));
+          place = rw pass-is (w .place);
+        }
+
+  no-head : (k : ℕ) → readHead t ≡ refused k → (passOf t .place ≡ 0) × (passOf t .read ≡ 0)
+  unfolding passOf passBehind
+  no-head k x = rw x (refl, refl)
+
+  at-most : (v : ℕ) → at (passOf t .tally) v ≤ edgeLimit
   unfolding passOf passBehind passOver
-  few = by-head (readHead t) refl
+  at-most v = by-head (readHead t) refl
     where
-      by-head : (a : Answer (Found Head)) → a ≡ readHead t → passBehind t a .read ≤ edgeLimit
-      by-head (refused k) x = omega arith
+      by-head : (a : Answer (Found Head)) → a ≡ readHead t → at (passBehind t a .tally) v ≤ edgeLimit
+      by-head (refused k) x = omega (arith, counted-most [] v)
       by-head (answer (found h first)) x =
-          omega (arith, run-few t (h .vertices) (2 * h .vertices) 0 first, head-fine t x .few)
+          let w = ran t (h .vertices) (2 * h .vertices) 0 first in
+          omega (
+            arith,
+            counted-most (runOf t (h .vertices) (2 * h .vertices) 0 first .edges) v,
+            w .few,
+            head-fine t x .few,
+          )
 
 -- ── what is loaded, by what the pass has handed back ──
 module _ (t : List ℕ) {p : Pass} (e : p ≡ passOf t) where
@@ -94,4 +137,12 @@ module _ (t : List ℕ) {p : Pass} (e : p ≡ passOf t) where
       rw (by-pass ∙ unless-next _ _ h, none, tallied)
 
 pub one-pass : OnePass
-one-pass = record { as-read = as-read; degrees = degrees; at-most = at-most; few = few }
+one-pass =
+    record {
+      frames = frames;
+      no-head = no-head;
+      counted = counted;
+      at-most = at-most;
+      degrees = degrees;
+      as-read = as-read;
+    }

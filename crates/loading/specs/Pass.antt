@@ -1,18 +1,19 @@
 -- One pass over a network text (document 02's ports and fields together): its edge frames are
 -- read one after the other up to the first refusal, and the edges that were read are tallied.
 use mathlib.Core.Bool.{cond, _||_}
-use mathlib.Core.List.{List, [], _∷_, map}
+use mathlib.Core.List.{List, [], _∷_}
 use Prim.Native.Nat.{ℕ, zero, suc, _+_, _*_}
 use lib.Dec.{ltb, eqb}
 use lib.ListN.{length}
-use Rattle.base.specs.Answer.{Answer, refused, answer, over}
+use Rattle.base.specs.Answer.{Answer, refused, answer}
 use Rattle.base.specs.Fold.{bit, tabulate}
 use Rattle.base.specs.Limits.{vertexLimit}
 use Rattle.base.specs.Refusals.{FORM}
 use Rattle.frame.specs.declared.kinds.Head.{Head}
 use Rattle.frame.specs.declared.kinds.Edge.{Edge}
 use Rattle.network_frames.specs.Frames.{Found, found, readHead, readEdge}
-use Rattle.loading.specs.Loading.{stateOf, noEnds, noCosts, noNetwork}
+use Rattle.network_text.specs.Text.{meaningOf}
+use Rattle.loading.specs.Loading.{networkOf, noNetwork}
 use Rattle.loading.specs.declared.pass.Pass.{Pass}
 
 -- ── the frames 02 ──
@@ -58,10 +59,7 @@ passOver h run =
       refusal = run .refusal;
       place = run .place;
       read = length es;
-      network =
-          stateOf (h .vertices) (h .reserved) (over (map (λ e. e .lower) es) noEnds)
-          (over (map (λ e. e .higher) es) noEnds)
-          (over (map (λ e. e .cost) es) noCosts);
+      network = networkOf (meaningOf (h .vertices) (h .reserved) es);
       tally = tallyOf es;
     }
 

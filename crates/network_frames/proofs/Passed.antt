@@ -3,7 +3,7 @@
 use mathlib.Core.Path.{_≡_, refl}
 use mathlib.Core.Bool.{Bool, true, false, cond, _&&_}
 use mathlib.Core.List.{List}
-use Prim.Native.Nat.{ℕ, zero, suc, _*_, _≤_, _<_}
+use Prim.Native.Nat.{ℕ, zero, suc, _+_, _*_, _≤_, _<_}
 use native.Mathlib.Omega.{arith}
 use lib.Dec.{ltb, eqb}
 use borrow.Author.Tests.{ltb-true, eqb-true}
@@ -12,12 +12,14 @@ use Rattle.base.specs.Limits.{fewestVertices, vertexLimit, verticesOk, costOk}
 use Rattle.base.specs.Refusals.{VERTICES, RESERVED, ENDS, COST}
 use Rattle.base.proofs.Bools.{no-answer}
 use Rattle.base.proofs.LimitLaws.{vertices-within}
-use Rattle.frame.specs.Table.{HEAD}
+use Rattle.frame.specs.Table.{HEAD, EDGE, lineLength}
 use Rattle.frame.specs.Line.{Placed, placed, readLine}
-use Rattle.frame.specs.Kinds.{headOf}
+use Rattle.frame.specs.Kinds.{headOf, edgeOf}
+use Rattle.frame.specs.declared.line.Fields.{Fields}
 use Rattle.frame.specs.declared.kinds.Head.{Head}
 use Rattle.frame.specs.declared.kinds.Edge.{Edge}
-use Rattle.network_frames.specs.Frames.{headRefusal, edgeRefusal, found, headIn, readHead}
+use Rattle.frame.proofs.Runs.{next-read}
+use Rattle.network_frames.specs.Frames.{headRefusal, edgeRefusal, found, headIn, readHead, edgeIn, readEdge}
 
 -- what a head and an edge say that are not refused
 pub record HeadPassed (n r : ℕ) : Type 0 where
@@ -72,6 +74,32 @@ module _ (t : List ℕ) {h : Head} {first : ℕ} (x : answer (found h first) ≡
       go : (a : Answer Placed) → answer (found h first) ≡ andThen a headIn → HeadPassed (h .vertices) (h .reserved)
       go (refused k) y = no-answer (cc)
       go (answer (placed f place)) y = own (headOf f) place _ refl y
+
+-- an edge that is read has passed, and the next line starts directly behind its own
+pub record EdgeFine (n at i : ℕ) (e : Edge) (next : ℕ) : Type 0 where
+  pub passed : EdgePassed n i e
+  pub place : next ≡ at + lineLength EDGE
+
+module _ (t : List ℕ) (n at i : ℕ) {e : Edge} {next : ℕ} (x : answer (found e next) ≡ readEdge t at n i) where
+  pub edge-fine : EdgeFine n at i e next
+  unfolding readEdge edgeIn andThen unless
+  edge-fine = go (readLine EDGE t at) refl x
+    where
+      -- by the edge's own refusal
+      own : (f : Fields) (place : ℕ) → answer (placed f place) ≡ readLine EDGE t at
+          → (k : ℕ) → edgeRefusal n i (edgeOf f) ≡ k
+          → answer (found e next) ≡ unless k (answer (found (edgeOf f) place)) → EdgeFine n at i e next
+      own f place q zero r y =
+          let u : edgeOf f ≡ e = cc in
+          let v : place ≡ next = cc in
+          rw (← u, ← v)
+          (record { passed = edge-passed n i (edgeOf f) (omega arith); place = next-read EDGE at t f place q .place })
+      own f place q (suc k) r y = no-answer (cc)
+
+      go : (a : Answer Placed) → a ≡ readLine EDGE t at → answer (found e next) ≡ andThen a (edgeIn n i)
+          → EdgeFine n at i e next
+      go (refused k) q y = no-answer (cc)
+      go (answer (placed f place)) q y = own f place q _ refl y
 
 -- the refusals of a network text are those up to an edge's cost
 pub head-small : (n r : ℕ) → headRefusal n r ≤ COST

@@ -19,7 +19,7 @@ use Rattle.frame.specs.declared.kinds.Head.{Head}
 use Rattle.frame.specs.declared.kinds.Edge.{Edge}
 use Rattle.frame.proofs.Runs.{next-read, only-form, run-next, run-broken, run-left, run-done}
 use Rattle.network_frames.specs.Frames.{edgeRefusal, found, readHead, edgeIn, readEdge}
-use Rattle.network_frames.proofs.Passed.{HeadPassed, EdgePassed, edge-passed, head-fine}
+use Rattle.network_frames.proofs.Passed.{HeadPassed, head-fine}
 use Rattle.network_text.specs.Text.{Meaning, Edges, next, finished, interrupted, checked, meaningOf, inFrames}
 use Rattle.network_text.specs.Text.{edgesOf, readNetwork, readReply}
 use Rattle.network_text.specs.Columns.{Columns, NetworkRead}
@@ -38,11 +38,6 @@ rows-due : (n : ℕ) → length (replicate (2 * n) EDGE) ≡ 2 * n
 rows-due n = length-replicate (2 * n) EDGE
 
 -- ── the edge at a place, as it is read by itself ──
-
--- what an edge decides that is read: it has passed, and the next one is due behind it
-pub record EdgeFound (n : ℕ) (text : List ℕ) (at i : ℕ) (e : Edge) (behind : ℕ) : Type 0 where
-  pub passed : EdgePassed n i e
-  pub goes : Goes n i (left n text at i) e (left n text behind (i + 1))
 
 module _ (n : ℕ) (text : List ℕ) (at i : ℕ) (h : i < 2 * n) where
   row-due : EDGE ≡ getD (replicate (2 * n) EDGE) i 0
@@ -76,24 +71,25 @@ module _ (n : ℕ) (text : List ℕ) (at i : ℕ) (h : i < 2 * n) where
       go (refused j) q y = let z = only-form EDGE text at j q in rw (broken-there (cc)) (cc)
       go (answer (placed f behind)) q y = own q _ refl y
 
+  -- an edge that is read passes, and the next one is due behind it
   pub edge-found : {e : Edge} {behind : ℕ} → answer (found e behind) ≡ readEdge text at n i
-      → EdgeFound n text at i e behind
+      → Goes n i (left n text at i) e (left n text behind (i + 1))
   unfolding readEdge edgeIn andThen unless
   edge-found {e} {behind} x = go (readLine EDGE text at) refl x
     where
       -- by the edge's own refusal
       own : {f : Fields} {place : ℕ} → answer (placed f place) ≡ readLine EDGE text at
           → (m : ℕ) → edgeRefusal n i (edgeOf f) ≡ m
-          → answer (found e behind) ≡ unless m (answer (found (edgeOf f) place)) → EdgeFound n text at i e behind
+          → answer (found e behind) ≡ unless m (answer (found (edgeOf f) place))
+          → Goes n i (left n text at i) e (left n text behind (i + 1))
       own {f} {place} q zero r y =
           let u : edgeOf f ≡ e = cc in
           let v : place ≡ behind = cc in
-          rw (← u, ← v)
-          (record { passed = edge-passed n i (edgeOf f) (omega arith); goes = edge-goes n i (there q) (omega arith) })
+          rw (← u, ← v) (edge-goes n i (there q) (omega arith))
       own q (suc m) r y = no-answer (cc)
 
       go : (a : Answer Placed) → a ≡ readLine EDGE text at → answer (found e behind) ≡ andThen a (edgeIn n i)
-          → EdgeFound n text at i e behind
+          → Goes n i (left n text at i) e (left n text behind (i + 1))
       go (refused j) q y = no-answer (cc)
       go (answer (placed f place)) q y = own q _ refl y
 
@@ -169,7 +165,7 @@ module _ {text : List ℕ} {n r : ℕ} {low₀ high₀ : List ℕ} {cost₀ : Li
         record {
           head = w .head;
           passed = w .passed ++ (e ∷ []);
-          edges = passing-next (w .edges) (edge-found n text at i l x .goes);
+          edges = passing-next (w .edges) (edge-found n text at i l x);
           within = omega arith;
           low-size = length-set low i (e .lower) ∙ w .low-size;
           high-size = length-set high i (e .higher) ∙ w .high-size;

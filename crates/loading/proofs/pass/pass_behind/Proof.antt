@@ -8,8 +8,7 @@ use Rattle.base.specs.Answer.{answer}
 use Rattle.graph.specs.declared.Network.{Network}
 use Rattle.network_frames.specs.Frames.{found, readEdge}
 use Rattle.network_frames.proofs.Cases.{edge-as, edge-number}
-use Rattle.network_frames.proofs.Passed.{EdgePassed}
-use Rattle.network_text.proofs.Reading.{edge-found}
+use Rattle.network_frames.proofs.Passed.{EdgePassed, edge-fine}
 use Rattle.loading.specs.Loading.{stateOf}
 use Rattle.loading.specs.Pass.{runOf, passOver}
 use Rattle.loading.specs.declared.pass.Pass.{Pass}
@@ -83,7 +82,7 @@ edge f = edge-as (f .before .before .read-edge .ensures) (f .found .given .1)
 
 passed : (f : tie.After-found Inv-loop μ-loop) →
     EdgePassed (entry (at-loop f) .args .head .vertices) (at-loop f .loop .i) (f .found .given .0 .0)
-passed f = edge-found _ _ _ _ (f .before .before .before .loop-test .taken) (edge f) .passed
+passed f = edge-fine _ _ _ _ (edge f) .passed
 
 cast-low : tie.Need-cast-low Inv-loop μ-loop
 cast-low c =

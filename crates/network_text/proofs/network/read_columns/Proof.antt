@@ -7,9 +7,9 @@ use borrow.Author.Needs.{needs}
 use Rattle.base.specs.Answer.{answer}
 use Rattle.network_frames.proofs.Cases.{head-as, head-number, edge-as, edge-number}
 use Rattle.network_frames.specs.Frames.{found, readEdge}
-use Rattle.network_frames.proofs.Passed.{EdgePassed}
+use Rattle.network_frames.proofs.Passed.{EdgePassed, edge-fine}
 use Rattle.network_text.proofs.Head.{head-refused}
-use Rattle.network_text.proofs.Reading.{Reading, edge-found, reading-none, reading-refused, reading-next}
+use Rattle.network_text.proofs.Reading.{Reading, reading-none, reading-refused, reading-next}
 use Rattle.network_text.proofs.Reading.{reading-left, reading-end, columns-refused, columns-read}
 use Rattle.network_text.proofs.network.read_columns.Statement.{statement}
 use Rattle.network_text.proofs.network.read_columns.Tie as tie
@@ -93,7 +93,7 @@ edge c = edge-as (c .before .before .before .read-edge .ensures) (c .before .rea
 
 passed : (c : tie.After-known-told2 Inv-loop μ-loop) →
     EdgePassed (vertices (at-edge c)) (at-edge c .loop .i) (c .before .read .given .0 .0)
-passed c = edge-found _ _ _ _ (c .before .before .before .before .loop-test .taken) (edge c) .passed
+passed c = edge-fine _ _ _ _ (edge c) .passed
 
 cast-low : tie.Need-cast-low Inv-loop μ-loop
 cast-low c =
