@@ -1,8 +1,8 @@
 // A tally of degrees: each edge is counted at both its ends, and the counts are asked for.
 ghost use mathlib.Core.Path.{_≡_};
-ghost use Prim.Native.Nat.{_+_, _≤_, _<_, _^_};
+ghost use Prim.Native.Nat.{ℕ, _+_, _≤_, _<_, _^_};
 ghost use lib.Dec.{eqb};
-ghost use lib.ListN.{getD};
+ghost use Rattle.base.specs.Columns.{at};
 ghost use Rattle.base.specs.Fold.{each};
 ghost use Rattle.base.specs.Limits.{vertexLimit};
 ghost use Rattle.incidence.specs.Degrees.{endCounted};
@@ -10,7 +10,7 @@ use base::VERTEX_LIMIT;
 
 // Counts an edge at both its ends.
 pub fn tally_edge(tally: &mut [u16; VERTEX_LIMIT], low: u8, high: u8)
-    requires { ⌜ (getD (now tally) low 0 + 2 < 2 ^ 16) × (getD (now tally) high 0 + 2 < 2 ^ 16) ⌝ }
+    requires { ⌜ ((v : ℕ) → at (now tally) v + 2 < 2 ^ 16) ⌝ }
     ensures { λ r. ⌜ now (tally .exit) ≡ endCounted (endCounted (now (tally .entry)) low) high ⌝ }
 {
     let i = low as usize;
@@ -22,7 +22,7 @@ pub fn tally_edge(tally: &mut [u16; VERTEX_LIMIT], low: u8, high: u8)
 // Whether each of the first vertices is counted four times.
 pub fn all_four(tally: &[u16; VERTEX_LIMIT], vertices: usize) -> bool
     requires { ⌜ vertices ≤ vertexLimit ⌝ }
-    ensures { λ r. ⌜ r ≡ each vertices (λ v. eqb (getD (now (tally .entry)) v 0) 4) ⌝ }
+    ensures { λ r. ⌜ r ≡ each vertices (λ v. eqb (at (now (tally .entry)) v) 4) ⌝ }
 {
     let mut v = 0;
     while v < vertices {

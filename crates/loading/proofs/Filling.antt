@@ -125,14 +125,13 @@ module _ {text : List ℕ} {n r first : ℕ} {g : Network} {tally : List ℕ} {a
     unfolding runOf onward
     filling-refused x = comes (rw (one-due, ← x))
 
-    pub filling-next : {e : Edge} {next : ℕ} → answer (found e next) ≡ readEdge text at n i → e .lower < e .higher
-        → n ≤ vertexLimit
+    pub filling-next : {e : Edge} {next : ℕ} {tally′ : List ℕ} → answer (found e next) ≡ readEdge text at n i
+        → tally′ ≡ endCounted (endCounted tally (e .lower)) (e .higher) → e .lower < e .higher → n ≤ vertexLimit
         → Filling text n r first
         (withColumns g (set (g .low) i (e .lower)) (set (g .high) i (e .higher)) (set (g .cost) i (e .cost)))
-        (endCounted (endCounted tally (e .lower)) (e .higher))
-        next (i + 1)
+        tally′ next (i + 1)
     unfolding runOf onward
-    filling-next {e} {next} x rising few =
+    filling-next {e} {next} x one-more rising few =
         record {
           passed = w .passed ++ (e ∷ []);
           count = length-append (w .passed) (e ∷ []) ∙ omega (arith, w .count);
@@ -150,7 +149,8 @@ module _ {text : List ℕ} {n r first : ℕ} {g : Network} {tally : List ℕ} {a
           costs = stored (λ a. a .cost) (pos 0) (w .costs);
           state = state-next n r g (w .state) _ _ _;
           tallied =
-              ap (λ (t : List ℕ). endCounted (endCounted t (e .lower)) (e .higher)) (w .tallied)
+              one-more
+              ∙ ap (λ (t : List ℕ). endCounted (endCounted t (e .lower)) (e .higher)) (w .tallied)
               ∙ counted-next (w .passed) e rising;
         }
       where
@@ -204,13 +204,13 @@ module _ {m : Meaning} where
     pub stored-room : (v : ℕ) → getD degrees v 0 ≤ i * 2
     stored-room v = rw (w .tallied) (degrees-below (networkOf m) i v)
 
-    pub stored-next : i < 2 * m .vertices
+    pub stored-next : {degrees′ : List ℕ}
+        → degrees′ ≡ endCounted (endCounted degrees (getD (m .low) i 0)) (getD (m .high) i 0) → i < 2 * m .vertices
         → Stored m
         (withColumns g (set (g .low) i (getD (m .low) i 0)) (set (g .high) i (getD (m .high) i 0))
         (set (g .cost) i (getD (m .cost) i (pos 0))))
-        (endCounted (endCounted degrees (getD (m .low) i 0)) (getD (m .high) i 0))
-        (i + 1)
-    stored-next l =
+        degrees′ (i + 1)
+    stored-next one-more l =
         let ends = length-replicate {A = ℕ} edgeLimit 0 in
         let costs = length-replicate {A = ℤ} edgeLimit (pos 0) in
         let few = s .few in
@@ -219,7 +219,7 @@ module _ {m : Meaning} where
           highs = copying-next (w .highs) 0 l (omega (arith, s .high-count)) (omega arith);
           costs = copying-next (w .costs) (pos 0) l (omega (arith, s .cost-count)) (omega arith);
           state = state-next (m .vertices) (m .reserved) g (w .state) _ _ _;
-          tallied = rw (w .tallied, ← low-is, ← high-is) (one-more-edge (networkOf m) i);
+          tallied = one-more ∙ rw (w .tallied, ← low-is, ← high-is) (one-more-edge (networkOf m) i);
         }
       where
         low-is : lowEnd (networkOf m) i ≡ getD (m .low) i 0

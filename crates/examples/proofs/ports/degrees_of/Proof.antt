@@ -3,7 +3,6 @@ use mathlib.Core.Path.{_≡_, _∙_}
 use Prim.Native.Nat.{_-_, _≤_}
 use native.Mathlib.Omega.{arith}
 use borrow.Author.Needs.{needs}
-use Rattle.graph.specs.Network.{lowEnd, highEnd}
 use Rattle.incidence.specs.Degrees.{degreesAmong}
 use Rattle.incidence.proofs.Tally.{degrees-below, no-edge, one-more-edge, all-edges}
 use Rattle.examples.proofs.ports.degrees_of.Statement.{statement}
@@ -28,8 +27,7 @@ tally-edge-requires : tie.Need-tally-edge-requires Inv-loop μ-loop
 tally-edge-requires c κs =
     let g = c .before .before .before .before .before .args .t1 in
     let e = c .before .before .before .before .loop .e in
-    rw (c .before .before .before .before .loop .inv .1)
-    (omega (arith, degrees-below g e (lowEnd g e)), omega (arith, degrees-below g e (highEnd g e)))
+    rw (c .before .before .before .before .loop .inv .1) (λ v. omega (arith, degrees-below g e v))
 
 add-e : tie.Need-add-e Inv-loop μ-loop
 add-e c = omega arith

@@ -12,7 +12,7 @@ element-copy-out-tally : tie.Need-element-copy-out-tally
 element-copy-out-tally c = search needs
 
 add-tally : tie.Need-add-tally
-add-tally c = search needs
+add-tally c = omega (arith, c .before .pre (c .before .args .low))
 
 mul-tally-2 : tie.Need-mul-tally-2
 mul-tally-2 c = search needs
@@ -29,7 +29,7 @@ element-copy-out-tally-2 c = search needs
 add-tally-2 : tie.Need-add-tally-2
 add-tally-2 c =
     let a = c .before .before .args in
-    omega (arith, counted-below (a .tally .now) (a .low) (a .high))
+    omega (arith, counted-below (a .tally .now) (a .low) (a .high), c .before .before .pre (a .high))
 
 mul-tally-4 : tie.Need-mul-tally-4
 mul-tally-4 c = search needs

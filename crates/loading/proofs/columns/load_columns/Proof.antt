@@ -1,7 +1,6 @@
 -- `loading::columns::load_columns` meets its contract.
 use Prim.Native.Nat.{_*_, _-_}
 use native.Mathlib.Omega.{arith}
-use lib.ListN.{getD}
 use mir.Facts.{toZ-ofZ}
 use borrow.Author.Needs.{needs}
 use Rattle.network_text.specs.Text.{meant}
@@ -73,12 +72,8 @@ element-set-from-c c = omega (arith, entry (c .before .before .before .before) .
 tally-edge-requires : tie.Need-tally-edge-requires Inv-loop μ-loop
 tally-edge-requires c κs =
     let l = c .before .before .before .before .before in
-    let room = stored-room (entry l .pre) (l .loop .inv) in
     let few = entry l .pre .few in
-    let a = entry l .args in (
-      omega (arith, room (getD (a .low .now) (l .loop .i) 0)),
-      omega (arith, room (getD (a .high .now) (l .loop .i) 0)),
-    )
+    λ v. omega (arith, stored-room (entry l .pre) (l .loop .inv) v)
 
 add-i : tie.Need-add-i Inv-loop μ-loop
 add-i c = search needs
@@ -89,8 +84,9 @@ loop-less c = search needs
 loop-again : tie.Need-loop-again Inv-loop μ-loop
 loop-again c =
     let l = c .before .before .before .before .before .before in
-    rw (c .tally-edge .ensures, toZ-ofZ (record { sfits = c .before .before .c .given }))
-    (stored-next (entry l .pre) (l .loop .inv) (c .before .before .before .before .before .loop-test .taken))
+    rw (toZ-ofZ (record { sfits = c .before .before .c .given }))
+    (stored-next (entry l .pre) (l .loop .inv) (c .tally-edge .ensures)
+    (c .before .before .before .before .before .loop-test .taken))
 
 returns : tie.Need-returns Inv-loop μ-loop
 returns c = stored-loaded (entry (c .before) .pre) (c .before .loop .inv) (c .loop-test .left)

@@ -111,10 +111,8 @@ element-set-from-c c = omega (arith, entry (at-loop (c .before .before .before .
 tally-edge-requires : tie.Need-tally-edge-requires Inv-loop μ-loop
 tally-edge-requires c κs =
     let f = c .before .before .before .before .before in
-    let room = filling-room (at-loop f .loop .inv) in
     let few = entry (at-loop f) .pre in
-    let e = f .found .given .0 .0 in
-    (omega (arith, room (e .lower)), omega (arith, room (e .higher)))
+    λ v. omega (arith, filling-room (at-loop f .loop .inv) v)
 
 add-i : tie.Need-add-i Inv-loop μ-loop
 add-i c = search needs
@@ -126,8 +124,9 @@ loop-again : tie.Need-loop-again Inv-loop μ-loop
 loop-again c =
     let f = c .before .before .before .before .before .before in
     let l = at-loop f in
-    rw (c .tally-edge .ensures, toZ-ofZ (record { sfits = c .before .before .struct-told .given .1 .1 .1 .0 .1 }))
-    (filling-next (l .loop .inv) (f .before .before .before .loop-test .taken) (edge f) (passed f .rising) (entry l .pre))
+    rw (toZ-ofZ (record { sfits = c .before .before .struct-told .given .1 .1 .1 .0 .1 }))
+    (filling-next (l .loop .inv) (f .before .before .before .loop-test .taken) (edge f) (c .tally-edge .ensures)
+    (passed f .rising) (entry l .pre))
 
 returns-2 : tie.Need-returns-2 Inv-loop μ-loop
 returns-2 c =
