@@ -4,5 +4,6 @@ pub mod Meanings
 pub mod Reading
 pub mod Runs
 pub mod OnePass
+pub mod Examples
 pub mod ListMarks
 pub mod ListReading
