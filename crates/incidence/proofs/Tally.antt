@@ -8,7 +8,7 @@ use borrow.Author.Tests.{eq-eqb, ne-eqb}
 use lib.Dec.{eqb}
 use lib.ListN.{length, getD, length-set, replicate, List·getD-eq-default}
 use lib.Seq.{ext-getD, getD-set-same, getD-set-other}
-use Rattle.base.specs.Fold.{fold, sum, each, bit, tabulate}
+use Rattle.base.specs.Fold.{fold, each, bit, tabulate}
 use Rattle.graph.specs.Network.{lowEnd, highEnd, endsAt, degree}
 use Rattle.graph.specs.Cut.{fourEach}
 use Rattle.base.specs.Limits.{vertexLimit}

@@ -1,6 +1,6 @@
 -- What is owed of the pass over a network text.
 use mathlib.Core.List.{List, []}
-use mathlib.Core.Path.{_≡_, refl, sym, _∙_, ap}
+use mathlib.Core.Path.{_≡_, refl, sym, _∙_}
 use Prim.Native.Nat.{ℕ, zero, suc, _*_, _≤_, _<_}
 use native.Mathlib.Nat.{zero-add}
 use native.Mathlib.Omega.{arith}
@@ -15,13 +15,12 @@ use Rattle.graph.specs.Network.{touches}
 use Rattle.incidence.specs.Degrees.{degreesOf}
 use Rattle.network_frames.specs.Frames.{Found, found, readHead}
 use Rattle.network_frames.proofs.Passed.{head-fine}
-use Rattle.network_text.specs.Text.{Meaning, meaningOf, readNetwork}
+use Rattle.network_text.specs.Text.{meaningOf, readNetwork}
 use Rattle.network_text.proofs.Head.{read-numbered, head-refused}
 use Rattle.network_text.proofs.Meaning.{read-valid}
 use Rattle.loading.specs.Loading.{networkOf, loadNetwork, loadedOf}
 use Rattle.loading.specs.OnePass.{frameOf, Frames, OnePass}
 use Rattle.loading.specs.Pass.{Run, runOf, passOver, passBehind, passOf}
-use Rattle.loading.specs.declared.Loaded.{Loaded}
 use Rattle.loading.specs.declared.pass.Pass.{Pass}
 use Rattle.loading.proofs.Counting.{counted-most, low-read, high-read, cost-read, counted-at, all-counted}
 use Rattle.loading.proofs.Runs.{nth, run-decides, ran}

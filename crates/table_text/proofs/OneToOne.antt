@@ -1,13 +1,12 @@
 -- Table texts and their meanings are one to one, and the longest text has 10,767 bytes.
 -- Assumes nothing.
 use mathlib.Core.Path.{_≡_, refl, sym, _∙_, ap}
-use mathlib.Core.List.{List, [], _∷_, _++_, map}
+use mathlib.Core.List.{List, [], _∷_, map}
 use Prim.Native.Nat.{ℕ, _+_, _*_, _^_, _≤_, _<_}
 use native.Mathlib.Omega.{arith}
 use native.Mathlib.Nat.{mul-le-mul, zero-add}
 use lib.Dec.{lit<}
-use lib.ListN.{length, drop, replicate, length-append, length-map, length-replicate}
-use lib.IntN.{ℤ}
+use lib.ListN.{length, replicate, length-append, length-map, length-replicate}
 use lib.Signed.{mag}
 use borrow.Author.Tests.{eq-eqb}
 use Rattle.base.specs.Answer.{answer, andThen, unless}
@@ -16,10 +15,9 @@ use Rattle.base.specs.Limits.{vertexLimit, edgeLimit}
 use Rattle.base.proofs.Answers.{then-answer}
 use Rattle.digits.proofs.Signs.{unsigned-lt}
 use Rattle.frame.specs.Table.{TABLE-HEAD, SPAN, bytesOf, padded, total, placeOf, startOf, digitsOf, widths, lineLength}
-use Rattle.frame.specs.Line.{placed, lineOf, lineAt, readLine, Fits}
+use Rattle.frame.specs.Line.{lineOf, lineAt, readLine, Fits}
 use Rattle.frame.specs.Kinds.{costDigits, ofTableHead, spanCostDigits, ofSpan}
-use Rattle.frame.specs.Frames.{framesOf, listed, linesOf, AllFit}
-use Rattle.frame.specs.declared.line.Fields.{Fields}
+use Rattle.frame.specs.Frames.{listed, linesOf, AllFit}
 use Rattle.frame.specs.declared.kinds.TableHead.{TableHead}
 use Rattle.frame.specs.declared.kinds.Span.{Span}
 use Rattle.frame.proofs.Lines.{length-line, line-is, line-rest, fields-found}

@@ -8,7 +8,7 @@ use native.Mathlib.Omega.{arith}
 use lib.ListN.{length, drop, getD, replicate, length-map, length-replicate, getD-replicate}
 use lib.IntN.{ℤ}
 use borrow.Author.Tests.{eq-eqb, ne-eqb}
-use Rattle.base.specs.Answer.{Answer, refused, answer, andThen, unless, over}
+use Rattle.base.specs.Answer.{Answer, refused, answer, andThen, unless}
 use Rattle.base.specs.Refusals.{FORM, TOTAL}
 use Rattle.base.proofs.Answers.{then-refused, then-answer}
 use Rattle.base.proofs.Bools.{no-answer}

@@ -2,7 +2,6 @@
 use mathlib.Core.Path.{_≡_, _∙_}
 use Prim.Native.Nat.{_-_, _≤_}
 use native.Mathlib.Omega.{arith}
-use borrow.Author.Needs.{needs}
 use Rattle.incidence.specs.Degrees.{degreesAmong}
 use Rattle.incidence.proofs.Tally.{degrees-below, no-edge, one-more-edge, all-edges}
 use Rattle.examples.proofs.ports.degrees_of.Statement.{statement}
