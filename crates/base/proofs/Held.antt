@@ -1,10 +1,10 @@
 -- A working column: its first elements stored one after the other, and what it holds of an answer afterwards.
 -- Assumes nothing.
 use mathlib.Core.Path.{_≡_, refl, sym, _∙_, ap}
-use mathlib.Core.List.{List, [], _∷_, _++_}
+use mathlib.Core.List.{List, [], _∷_, _++_, map, map-append}
 use Prim.Native.Nat.{ℕ, _≤_, _<_}
 use native.Mathlib.Omega.{arith}
-use lib.ListN.{length, take, drop, set, length-append, length-set}
+use lib.ListN.{length, take, drop, set, length-append, length-map, length-set}
 use lib.Seq.{take-at}
 use Rattle.base.specs.Answer.{Answer, answer, over, Held}
 use Rattle.base.proofs.Filling.{over-set}
@@ -27,6 +27,12 @@ module _ {A : Type 0} where
         size = length-set column i a ∙ s .size;
         holds = ap (λ (c : List A). set c i a) (s .holds) ∙ over-set xs old i a (sym n) h;
       }
+
+-- a column of one part of each element of a list, with one element more
+pub part-next : {E A : Type 0} (part : E → A) (es : List E) (e : E) {old column : List A}
+    → Storing (map part es) old column → {i : ℕ} → length es ≡ i → i < length old
+    → Storing (map part (es ++ (e ∷ []))) old (set column i (part e))
+part-next part es e s n h = rw map-append (storing-next s (length-map es part ∙ n) h (part e))
 
 -- a column that starts with a list of so many elements
 pub record Starts {A : Type 0} (k : ℕ) (xs column : List A) : Type 0 where

@@ -1,15 +1,15 @@
 -- What is known while the steps of a chain text are read into columns, one after the other.
 -- Assumes nothing.
 use mathlib.Core.Path.{_≡_, refl, sym, _∙_}
-use mathlib.Core.List.{List, [], _∷_, _++_, map, map-append}
+use mathlib.Core.List.{List, [], _∷_, _++_, map}
 use Prim.Native.Nat.{ℕ, suc, _+_, _-_, _≤_, _<_}
 use native.Mathlib.Omega.{arith}
 use native.Mathlib.Nat.{sub-zero}
-use lib.ListN.{length, drop, set, length-append, length-map}
+use lib.ListN.{length, drop, set, length-append}
 use lib.Seq.{drop-drop}
 use Rattle.base.specs.Answer.{refused, answer, refusalOf}
 use Rattle.base.specs.Refusals.{FORM}
-use Rattle.base.proofs.Held.{Storing, storing-none, storing-next}
+use Rattle.base.proofs.Held.{Storing, storing-none, part-next}
 use Rattle.base.proofs.Taking.{first, behind, behind-none, behind-next, behind-refused, behind-all}
 use Rattle.frame.specs.Table.{STEP}
 use Rattle.frame.specs.Line.{readLine}
@@ -67,11 +67,6 @@ module _ {k : ℕ} {text v₀ x₀ y₀ v x y : List ℕ} {at i : ℕ} (r : Read
         rw (← whole) (record { reply = refl; vs = r .in-v .size; xs = r .in-x .size; ys = r .in-y .size })
 
     -- and is there: each column takes its part of it
-    part-next : (part : Step → ℕ) (s : Step) {old column : List ℕ} → i < length old
-        → Storing (map part (r .steps)) old column
-        → Storing (map part (r .steps ++ (s ∷ []))) old (set column i (part s))
-    part-next part s l w = rw map-append (storing-next w (length-map (r .steps) part ∙ r .count) l (part s))
-
     pub reading-next : Columns k v₀ x₀ y₀ → {f : Fields} {next : ℕ} → Next STEP at text f next
         → {s : Step} → s ≡ stepOf f
         → Reading k text v₀ x₀ y₀ (set v i (s .v)) (set x i (s .x)) (set y i (s .y)) next (i + 1)
@@ -83,9 +78,9 @@ module _ {k : ℕ} {text v₀ x₀ y₀ v x y : List ℕ} {at i : ℕ} (r : Read
           all =
               sym (behind-next (r .steps) s (stepsIn (k - (i + 1)) (drop next text)))
               ∙ rw q (rw (one-due, left-next (k - (i + 1)) text at f next e) at (r .all));
-          in-v = part-next (λ s. s .v) s (omega (arith, room .v-room)) (r .in-v);
-          in-x = part-next (λ s. s .x) s (omega (arith, room .x-room)) (r .in-x);
-          in-y = part-next (λ s. s .y) s (omega (arith, room .y-room)) (r .in-y);
+          in-v = part-next (λ s. s .v) (r .steps) s (r .in-v) (r .count) (omega (arith, room .v-room));
+          in-x = part-next (λ s. s .x) (r .steps) s (r .in-x) (r .count) (omega (arith, room .x-room));
+          in-y = part-next (λ s. s .y) (r .steps) s (r .in-y) (r .count) (omega (arith, room .y-room));
         }
 
   -- all are taken

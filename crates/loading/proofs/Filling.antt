@@ -1,18 +1,18 @@
 -- What is known while the edges of a network are stored in the state: as they are read from its text, or from columns.
 use mathlib.Core.Path.{_≡_, refl, _∙_, ap}
-use mathlib.Core.List.{List, [], _∷_, _++_, map, map-append, append-nil}
+use mathlib.Core.List.{List, [], _∷_, _++_, map, append-nil}
 use Prim.Native.Nat.{ℕ, zero, suc, _+_, _*_, _-_, _≤_, _<_}
 use native.Mathlib.Numerals.{add-one}
 use native.Mathlib.Omega.{arith}
 use borrow.Author.Tests.{lt-ltb, le-ltb}
-use lib.ListN.{length, getD, set, replicate, length-append, length-map, length-replicate}
+use lib.ListN.{length, getD, set, replicate, length-append, length-replicate}
 use lib.Seq.{take-all, append-snoc}
 use lib.IntN.{ℤ, pos}
 use Rattle.base.specs.Answer.{refused, answer, over}
 use Rattle.base.specs.Limits.{edgeLimit, vertexLimit}
 use Rattle.base.specs.Refusals.{FORM}
 use Rattle.base.proofs.Filling.{Copying, copying-none, copying-next, copying-all}
-use Rattle.base.proofs.Held.{Storing, storing-none, storing-next}
+use Rattle.base.proofs.Held.{Storing, storing-none, part-next}
 use Rattle.base.proofs.Parts.{over-at}
 use Rattle.frame.specs.declared.kinds.Edge.{Edge}
 use Rattle.graph.specs.Network.{lowEnd, highEnd}
@@ -144,9 +144,9 @@ module _ {text : List ℕ} {n r first : ℕ} {g : Network} {tally : List ℕ} {a
                 add-one,
                 append-snoc (w .passed) e (runOf text n (2 * n - suc i) (suc i) next .edges),
               );
-          lows = stored (λ a. a .lower) 0 (w .lows);
-          highs = stored (λ a. a .higher) 0 (w .highs);
-          costs = stored (λ a. a .cost) (pos 0) (w .costs);
+          lows = part-next (λ a. a .lower) (w .passed) e (w .lows) (w .count) (room {A = ℕ} 0);
+          highs = part-next (λ a. a .higher) (w .passed) e (w .highs) (w .count) (room {A = ℕ} 0);
+          costs = part-next (λ a. a .cost) (w .passed) e (w .costs) (w .count) (room (pos 0));
           state = state-next n r g (w .state) _ _ _;
           tallied =
               one-more
@@ -154,12 +154,8 @@ module _ {text : List ℕ} {n r first : ℕ} {g : Network} {tally : List ℕ} {a
               ∙ counted-next (w .passed) e rising;
         }
       where
-        stored : {A : Type 0} (part : Edge → A) (d : A) {column : List A}
-            → Storing (map part (w .passed)) (replicate edgeLimit d) column
-            → Storing (map part (w .passed ++ (e ∷ []))) (replicate edgeLimit d) (set column i (part e))
-        stored part d s =
-            rw map-append
-            (storing-next s (length-map (w .passed) part ∙ w .count) (rw length-replicate (omega arith)) (part e))
+        room : {A : Type 0} (d : A) → i < length (replicate edgeLimit d)
+        room d = rw length-replicate (omega arith)
 
   -- the last edge is read: something is left over, or nothing
   module _ (l : 2 * n ≤ i) where

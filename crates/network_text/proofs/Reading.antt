@@ -1,15 +1,16 @@
--- What is known while the edges of a network text are read into columns, by whichever reader.
+-- What is known while the edges of a network text are read into columns.
 -- Assumes nothing.
 use mathlib.Core.Path.{_≡_, refl, sym, _∙_}
 use mathlib.Core.List.{List, [], _∷_, _++_, map}
 use Prim.Native.Nat.{ℕ, zero, suc, _+_, _*_, _≤_, _<_}
 use native.Mathlib.Omega.{arith}
-use lib.ListN.{length, drop, getD, set, replicate, length-set, length-replicate, getD-replicate}
+use lib.ListN.{length, drop, getD, set, replicate, length-replicate, getD-replicate}
 use lib.IntN.{ℤ}
 use Rattle.base.specs.Answer.{Answer, refused, answer, andThen, unless, over}
 use Rattle.base.specs.Limits.{vertexLimit}
 use Rattle.base.specs.Refusals.{FORM}
 use Rattle.base.proofs.Bools.{no-answer}
+use Rattle.base.proofs.Held.{Storing, storing-none, part-next}
 use Rattle.frame.specs.Table.{EDGE}
 use Rattle.frame.specs.Line.{Placed, placed, readLine}
 use Rattle.frame.specs.Kinds.{edgeOf}
@@ -24,7 +25,6 @@ use Rattle.network_text.specs.Text.{Meaning, Edges, next, finished, inte
 use Rattle.network_text.specs.Text.{edgesOf, readNetwork, readReply}
 use Rattle.network_text.specs.Columns.{Columns, NetworkRead}
 use Rattle.network_text.specs.declared.network.ReadNetwork.the-variants.{Read, Refused}
-use Rattle.network_text.proofs.Columns.{part-next}
 use Rattle.network_text.proofs.Edges.{Passing, Goes, passing-none}
 use Rattle.network_text.proofs.Edges.{passing-end, passing-stop, passing-refused, passing-next, edge-stops}
 use Rattle.network_text.proofs.Edges.{edge-goes}
@@ -112,29 +112,23 @@ pub record Reading (text : List ℕ) (n r : ℕ) (low₀ high₀ : List ℕ) (co
   pub passed : List Edge
   pub edges : Passing (readNetwork text) (meaningOf n r) n passed i (left n text at i)
   pub within : i ≤ 2 * n
-  pub low-size : length low ≡ length low₀
-  pub high-size : length high ≡ length high₀
-  pub cost-size : length cost ≡ length cost₀
-  pub lows : low ≡ over (map (λ e. e .lower) passed) low₀
-  pub highs : high ≡ over (map (λ e. e .higher) passed) high₀
-  pub costs : cost ≡ over (map (λ e. e .cost) passed) cost₀
+  pub lows : Storing (map (λ e. e .lower) passed) low₀ low
+  pub highs : Storing (map (λ e. e .higher) passed) high₀ high
+  pub costs : Storing (map (λ e. e .cost) passed) cost₀ cost
 
 pub reading-none : {text : List ℕ} {h : Head} {first : ℕ} {low high : List ℕ} {cost : List ℤ}
     → answer (found h first) ≡ readHead text
     → Reading text (h .vertices) (h .reserved) low high cost low high cost first 0
-unfolding over edgesOf
+unfolding edgesOf
 reading-none {text} x =
     record {
       head = head-fine text x;
       passed = [];
       edges = passing-none (edges-due text x);
       within = omega arith;
-      low-size = refl;
-      high-size = refl;
-      cost-size = refl;
-      lows = refl;
-      highs = refl;
-      costs = refl;
+      lows = storing-none;
+      highs = storing-none;
+      costs = storing-none;
     }
 
 -- a network that is read, and its columns
@@ -167,12 +161,9 @@ module _ {text : List ℕ} {n r : ℕ} {low₀ high₀ : List ℕ} {cost₀ : Li
           passed = w .passed ++ (e ∷ []);
           edges = passing-next (w .edges) (edge-found n text at i l x);
           within = omega arith;
-          low-size = length-set low i (e .lower) ∙ w .low-size;
-          high-size = length-set high i (e .higher) ∙ w .high-size;
-          cost-size = length-set cost i (e .cost) ∙ w .cost-size;
-          lows = part-next (λ a. a .lower) (w .passed) e low₀ m (omega (arith, k .low-room)) (w .lows);
-          highs = part-next (λ a. a .higher) (w .passed) e high₀ m (omega (arith, k .high-room)) (w .highs);
-          costs = part-next (λ a. a .cost) (w .passed) e cost₀ m (omega (arith, k .cost-room)) (w .costs);
+          lows = part-next (λ a. a .lower) (w .passed) e (w .lows) m (omega (arith, k .low-room));
+          highs = part-next (λ a. a .higher) (w .passed) e (w .highs) m (omega (arith, k .high-room));
+          costs = part-next (λ a. a .cost) (w .passed) e (w .costs) m (omega (arith, k .cost-room));
         }
 
   -- the last edge is read: something is left over, or nothing
@@ -188,9 +179,9 @@ module _ {text : List ℕ} {n r : ℕ} {low₀ high₀ : List ℕ} {cost₀ : Li
           is = passing-end (w .edges) (none-left n text at i l m);
           vertices = refl;
           reserved = refl;
-          lows = w .lows;
-          highs = w .highs;
-          costs = w .costs;
+          lows = w .lows .holds;
+          highs = w .highs .holds;
+          costs = w .costs .holds;
         }
 
 -- ── what a reader into columns replies, by its answer ──

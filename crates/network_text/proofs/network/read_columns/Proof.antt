@@ -83,7 +83,7 @@ returns-2 c =
     let l = e .before .before in
     let x = edge-number (e .read-edge .ensures) (c .before .enum-told2 .given .1) (c .refusal2 .ensures) in
     let w = l .loop .inv in
-    columns-refused (reading-refused w (e .before .loop-test .taken) x) (w .low-size) (w .high-size) (w .cost-size)
+    columns-refused (reading-refused w (e .before .loop-test .taken) x) (w .lows .size) (w .highs .size) (w .costs .size)
 
 -- the edge that was read, and that it has passed
 edge : (c : tie.After-known-told2 Inv-loop μ-loop) →
@@ -107,7 +107,7 @@ mul-low c = search needs
 slice-write-low : tie.Need-slice-write-low Inv-loop μ-loop
 slice-write-low c =
     let l = at-edge (c .before) in
-    omega (arith, l .loop .inv .low-size, l .loop .inv .head .few, entry l .pre .low-room)
+    omega (arith, l .loop .inv .lows .size, l .loop .inv .head .few, entry l .pre .low-room)
 
 cast-high : tie.Need-cast-high Inv-loop μ-loop
 cast-high c =
@@ -121,7 +121,7 @@ mul-high c = search needs
 slice-write-high : tie.Need-slice-write-high Inv-loop μ-loop
 slice-write-high c =
     let l = at-edge (c .before .before) in
-    omega (arith, l .loop .inv .high-size, l .loop .inv .head .few, entry l .pre .high-room)
+    omega (arith, l .loop .inv .highs .size, l .loop .inv .head .few, entry l .pre .high-room)
 
 mul-c : tie.Need-mul-c Inv-loop μ-loop
 mul-c c = search needs
@@ -129,7 +129,7 @@ mul-c c = search needs
 slice-set-from-c : tie.Need-slice-set-from-c Inv-loop μ-loop
 slice-set-from-c c =
     let l = at-edge (c .before .before .before) in
-    omega (arith, l .loop .inv .cost-size, l .loop .inv .head .few, entry l .pre .cost-room)
+    omega (arith, l .loop .inv .costs .size, l .loop .inv .head .few, entry l .pre .cost-room)
 
 add-i : tie.Need-add-i Inv-loop μ-loop
 add-i c = search needs
@@ -156,8 +156,8 @@ same-length-6 c = search needs
 returns-3 : tie.Need-returns-3 Inv-loop μ-loop
 returns-3 c =
     let w = c .before .before .loop .inv in
-    columns-refused (reading-left w (c .before .loop-test .left) (c .if1 .taken)) (w .low-size) (w .high-size)
-    (w .cost-size)
+    columns-refused (reading-left w (c .before .loop-test .left) (c .if1 .taken)) (w .lows .size) (w .highs .size)
+    (w .costs .size)
 
 same-length-7 : tie.Need-same-length-7 Inv-loop μ-loop
 same-length-7 c = search needs
