@@ -3,19 +3,19 @@
 use mathlib.Core.Path.{_≡_, refl, _∙_, ap}
 use mathlib.Core.Bool.{Bool}
 use mathlib.Core.List.{List, [], _∷_, map}
-use Prim.Native.Nat.{ℕ, zero, suc, _+_, _*_, _-_, _≤_, _<_}
+use Prim.Native.Nat.{ℕ, zero, suc, _+_, _*_, _-_, _/_, _%_, _^_, _≤_, _<_}
 use native.Mathlib.Omega.{arith}
 use native.Mathlib.Numerals.{add-one}
 use native.Mathlib.Decide.{decLt}
-use lib.Dec.{leb, ltb}
+use lib.Dec.{leb, ltb, eqb}
 use lib.ListN.{length, take, drop, getD, length-map, drop-of-length-le, List·getD-map, List·getD-eq-default}
 use lib.Seq.{drop-cons, take-all, take-nil}
-use borrow.Author.Tests.{ltb-true, leb-true}
+use borrow.Author.Tests.{ltb-true, leb-true, eqb-true}
 use Rattle.digits.specs.Hexadecimal.{byteValues}
 use Rattle.frame.specs.Table.{table, rows, fields, columns, kindOf, padded, bytesOf, total, placeOf, entryOf}
-use Rattle.frame.specs.Table.{startOf, digitsOf, widths}
-use Rattle.base.specs.Fold.{fold, tabulate}
-use Rattle.base.proofs.Sums.{each-each-at, tabulate-at}
+use Rattle.frame.specs.Table.{startOf, digitsOf, widths, columnsTo, columnsOf, REFUSAL}
+use Rattle.base.specs.Fold.{fold}
+use Rattle.base.proofs.Sums.{each-each-at}
 
 -- sums
 total-next : (ns : List ℕ) (k : ℕ) → total (take (suc k) ns) ≡ total (take k ns) + getD ns k 0
@@ -130,14 +130,23 @@ pub start-entry : (row k : ℕ) → 2 * entryOf row (k + 1) ≡ startOf row k
 unfolding startOf entryOf
 start-entry row k = rw add-one
 
--- the whole table as the code lays it out
-unfoldable pub laidOut : List (List ℕ)
-unfolding tabulate entryOf kindOf placeOf bytesOf padded total
-laidOut = tabulate rows (λ row. tabulate columns (entryOf row))
+-- a number that is none of those below n, as the last arm of a `match` says it
+abbrev pub NoneBelow : ℕ → ℕ → Type 0
+NoneBelow x zero = Unit
+NoneBelow x (suc n) = NoneBelow x n × (x ≡ n → ⊥)
 
-pub laid-entry : (row column : ℕ) → row < rows → column < columns
-    → getD (getD laidOut row []) column 0 ≡ entryOf row column
-unfolding laidOut
-laid-entry row column h l =
-    ap (λ (r : List ℕ). getD r column 0) (tabulate-at rows (λ i. tabulate columns (entryOf i)) [] row h)
-    ∙ tabulate-at columns (entryOf row) 0 column l
+none-below : (x n : ℕ) → NoneBelow x n → n ≤ x
+none-below x zero h = omega arith
+none-below x (suc n) h = omega (arith, none-below x n (h .0), h .1)
+
+pub last-row : (row : ℕ) → row < rows → NoneBelow row REFUSAL → row ≡ REFUSAL
+last-row row l h = omega (arith, none-below row REFUSAL h)
+
+-- a column is found in its row's number, by a test at each entry
+found : ℕ → ℕ → Bool
+found row column = eqb (columnsOf row / 2 ^ (8 * (columns - 1 - column)) % byteValues) (entryOf row column)
+
+pub column-found : (row column : ℕ) → row < rows → column < columns
+    → columnsOf row / 2 ^ (8 * (columns - 1 - column)) % byteValues ≡ entryOf row column
+unfolding fold found columnsTo entryOf kindOf placeOf bytesOf padded total
+column-found row column h l = eqb-true _ _ (each-each-at found rows columns refl row column h l)

@@ -2,6 +2,7 @@
 use mathlib.Core.List.{List, [], _∷_, map}
 use Prim.Native.Nat.{ℕ, zero, suc, _+_, _*_}
 use lib.ListN.{getD, take}
+use Rattle.digits.specs.Hexadecimal.{byteValues}
 
 -- the kinds, and how many bytes each of their fields has
 abbrev pub table : List (ℕ × List ℕ)
@@ -85,6 +86,15 @@ placeOf row field = 1 + total (take field (bytesOf row))
 unfoldable pub entryOf : ℕ → ℕ → ℕ
 entryOf row zero = kindOf row
 entryOf row (suc field) = placeOf row field
+
+-- the first n columns of a row as one number, a byte for each, the first on top
+unfoldable pub columnsTo : ℕ → ℕ → ℕ
+columnsTo zero row = 0
+columnsTo (suc n) row = columnsTo n row * byteValues + entryOf row n
+
+-- a whole row as one number
+abbrev pub columnsOf : ℕ → ℕ
+columnsOf row = columnsTo columns row
 
 -- the digit of a line at which a field starts
 unfoldable pub startOf : ℕ → ℕ → ℕ

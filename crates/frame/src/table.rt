@@ -1,7 +1,9 @@
 // The one table of frames: their kinds, the places of their fields and their lengths.
+use digits::BYTE_VALUES;
 ghost use mathlib.Core.Path.{_≡_};
 ghost use Prim.Native.Nat.{_<_, _≤_};
-ghost use Rattle.frame.specs.Table.{rows, columns, fields, entryOf, kindOf, startOf, digitsOf, lineLength};
+ghost use Rattle.frame.specs.Table.{rows, columns, fields, entryOf, columnsOf, kindOf, startOf, digitsOf};
+ghost use Rattle.frame.specs.Table.{lineLength};
 
 // How many fields a frame can have.
 pub const FIELDS: usize = 5;
@@ -9,7 +11,7 @@ pub const FIELDS: usize = 5;
 // The columns of the table: the kind, the place of each field, the length.
 const COLUMNS: usize = 1 + FIELDS + 1;
 
-const ROWS: usize = 9;
+const BYTE_BITS: usize = 8;
 
 // The rows of the table, by what their frames say.
 pub const HEAD: usize = 0;
@@ -30,26 +32,33 @@ pub const SPAN: usize = 7;
 
 pub const REFUSAL: usize = 8;
 
-// A row has the kind, the byte at which each field starts, and the length in bytes. A field ends where the next one
-// starts; an absent field has no bytes.
-const TABLE: [[u8; COLUMNS]; ROWS] = [
-    [0x01, 1, 3, 5, 5, 5, 5],
-    [0x02, 1, 3, 5, 7, 11, 11],
-    [0x03, 1, 3, 5, 7, 7, 7],
-    [0x04, 1, 3, 3, 3, 3, 3],
-    [0x05, 1, 3, 3, 3, 3, 3],
-    [0x06, 1, 9, 17, 17, 17, 17],
-    [0x08, 1, 3, 5, 7, 7, 7],
-    [0x09, 1, 3, 5, 6, 10, 10],
-    [0x0f, 1, 2, 2, 2, 2, 2],
-];
+// A row's columns, a byte each, the first on top: the kind, the byte at which each field starts, and the length in
+// bytes. A field ends where the next one starts; an absent field has no bytes. A row is a number, and the table no
+// constant array, since the compiled code would build the array anew for each entry that is read.
+fn columns_of(row: usize) -> u64
+    requires { ⌜ row < rows ⌝ }
+    ensures { λ r. ⌜ r ≡ columnsOf row ⌝ }
+{
+    match row {
+        HEAD => 0x01_01_03_05_05_05_05,
+        EDGE => 0x02_01_03_05_07_0b_0b,
+        STEP => 0x03_01_03_05_07_07_07,
+        DROPPED => 0x04_01_03_03_03_03_03,
+        KEPT => 0x05_01_03_03_03_03_03,
+        COSTS => 0x06_01_09_11_11_11_11,
+        TABLE_HEAD => 0x08_01_03_05_07_07_07,
+        SPAN => 0x09_01_03_05_06_0a_0a,
+        _ => 0x0f_01_02_02_02_02_02,
+    }
+}
 
 // A column of a row.
 fn entry(row: usize, column: usize) -> usize
     requires { ⌜ (row < rows) × (column < columns) ⌝ }
     ensures { λ r. ⌜ r ≡ entryOf row column ⌝ }
 {
-    TABLE[row][column] as usize
+    let behind = COLUMNS - 1 - column;
+    (columns_of(row) >> (BYTE_BITS * behind)) as usize % BYTE_VALUES
 }
 
 // The kind of a row's frames.

@@ -1,39 +1,30 @@
 -- `frame::table::entry` meets its contract.
 -- Assumes nothing.
-use mathlib.Core.Path.{_≡_}
-use Prim.Native.Nat.{ℕ, _<_}
-use native.Mathlib.Omega.{arith}
-use mir.Syntax.{w64}
-use mir.Val.{Fits}
 use borrow.Author.Needs.{needs}
-use Rattle.digits.specs.Hexadecimal.{byteValues}
-use Rattle.frame.proofs.Rows.{laidOut, laid-entry, entry-small}
+use Rattle.frame.proofs.Rows.{column-found}
 use Rattle.frame.proofs.table.entry.Statement.{statement}
 use Rattle.frame.proofs.table.entry.Tie as tie
+
+sub-behind : tie.Need-sub-behind
+sub-behind c = search needs
+
+sub-behind-2 : tie.Need-sub-behind-2
+sub-behind-2 c = search needs
+
+columns-of-requires : tie.Need-columns-of-requires
+columns-of-requires c κs = search needs
 
 mul-result : tie.Need-mul-result
 mul-result c = search needs
 
-index-1-result : tie.Need-index-1-result
-index-1-result c = search needs
-
-index-2-result : tie.Need-index-2-result
-index-2-result c = search needs
-
-byte-fits : (n m : ℕ) → n ≡ m → m < byteValues → Fits w64 n
-byte-fits n m e h = record { fits = omega arith }
-
-cast-result : tie.Need-cast-result
-unfolding laidOut
-cast-result c =
-    let s = c .before in
-    let row = s .args .row in
-    let column = s .args .column in
-    byte-fits _ _ (laid-entry row column (s .pre .0) (s .pre .1)) (entry-small row (s .pre .0) column (s .pre .1))
+shr-result : tie.Need-shr-result
+shr-result c = search needs
 
 returns : tie.Need-returns
-unfolding laidOut
-returns c = laid-entry (c .before .args .row) (c .before .args .column) (c .before .pre .0) (c .before .pre .1)
+returns c =
+    let s = c .before in
+    rw (c .columns-of .ensures) (column-found (s .args .row) (s .args .column) (s .pre .0) (s .pre .1))
 
 pub entry-spec : {M : Type 1} → statement M
-entry-spec = tie.close (tie.spec mul-result index-1-result index-2-result cast-result returns)
+entry-spec =
+    tie.close (tie.spec sub-behind sub-behind-2 columns-of-requires mul-result shr-result returns)
