@@ -13,9 +13,9 @@ use lib.Seq.{drop-cons, take-all, take-nil}
 use borrow.Author.Tests.{ltb-true, leb-true, eqb-true}
 use Rattle.digits.specs.Hexadecimal.{byteValues}
 use Rattle.frame.specs.Table.{table, rows, fields, columns, kindOf, padded, bytesOf, total, placeOf, entryOf}
-use Rattle.frame.specs.Table.{startOf, digitsOf, widths, columnsTo, columnsOf, REFUSAL}
-use Rattle.base.specs.Fold.{fold}
-use Rattle.base.proofs.Sums.{each-each-at}
+use Rattle.frame.specs.Table.{startOf, digitsOf, widths, entriesTo, entriesOf}
+use Rattle.base.specs.Fold.{fold, tabulate}
+use Rattle.base.proofs.Sums.{each-each-at, tabulate-at}
 
 -- sums
 total-next : (ns : List ℕ) (k : ℕ) → total (take (suc k) ns) ≡ total (take k ns) + getD ns k 0
@@ -130,23 +130,20 @@ pub start-entry : (row k : ℕ) → 2 * entryOf row (k + 1) ≡ startOf row k
 unfolding startOf entryOf
 start-entry row k = rw add-one
 
--- a number that is none of those below n, as the last arm of a `match` says it
-abbrev pub NoneBelow : ℕ → ℕ → Type 0
-NoneBelow x zero = Unit
-NoneBelow x (suc n) = NoneBelow x n × (x ≡ n → ⊥)
+-- the whole table as the code lays it out
+unfoldable pub laidOut : List ℕ
+unfolding tabulate entriesTo entryOf kindOf placeOf bytesOf padded total
+laidOut = tabulate rows entriesOf
 
-none-below : (x n : ℕ) → NoneBelow x n → n ≤ x
-none-below x zero h = omega arith
-none-below x (suc n) h = omega (arith, none-below x n (h .0), h .1)
-
-pub last-row : (row : ℕ) → row < rows → NoneBelow row REFUSAL → row ≡ REFUSAL
-last-row row l h = omega (arith, none-below row REFUSAL h)
+pub laid-row : (row : ℕ) → row < rows → getD laidOut row 0 ≡ entriesOf row
+unfolding laidOut
+laid-row row h = tabulate-at rows entriesOf 0 row h
 
 -- a column is found in its row's number, by a test at each entry
 found : ℕ → ℕ → Bool
-found row column = eqb (columnsOf row / 2 ^ (8 * (columns - 1 - column)) % byteValues) (entryOf row column)
+found row column = eqb (entriesOf row / 2 ^ (8 * (columns - 1 - column)) % byteValues) (entryOf row column)
 
-pub column-found : (row column : ℕ) → row < rows → column < columns
-    → columnsOf row / 2 ^ (8 * (columns - 1 - column)) % byteValues ≡ entryOf row column
-unfolding fold found columnsTo entryOf kindOf placeOf bytesOf padded total
-column-found row column h l = eqb-true _ _ (each-each-at found rows columns refl row column h l)
+pub entry-found : (row column : ℕ) → row < rows → column < columns
+    → entriesOf row / 2 ^ (8 * (columns - 1 - column)) % byteValues ≡ entryOf row column
+unfolding fold found entriesTo entryOf kindOf placeOf bytesOf padded total
+entry-found row column h l = eqb-true _ _ (each-each-at found rows columns refl row column h l)

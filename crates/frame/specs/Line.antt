@@ -1,12 +1,13 @@
 -- A line: the kind and the fields of a frame, spelt one after the other, and a line feed.
+use mathlib.Core.Path.{_≡_}
 use mathlib.Core.Bool.{Bool, cond, _&&_}
 use mathlib.Core.List.{List, [], _∷_}
-use Prim.Native.Nat.{ℕ, _+_, _^_, _<_}
+use Prim.Native.Nat.{ℕ, _+_, _^_, _≤_, _<_}
 use lib.Dec.{leb, eqb}
 use lib.ListN.{length, take, drop, getD}
 use Rattle.base.specs.Answer.{Answer, refused, answer}
 use Rattle.base.specs.Refusals.{FORM}
-use Rattle.frame.specs.Table.{fields, kindOf, widths, total, startOf, lineLength}
+use Rattle.frame.specs.Table.{rows, fields, kindOf, widths, total, startOf, lineLength, entriesOf}
 use Rattle.digits.specs.Hexadecimal.{allDigits, numberOf, spell}
 use Rattle.frame.specs.declared.line.Fields.{Fields}
 use Rattle.frame.specs.declared.line.Line.{Line}
@@ -76,6 +77,13 @@ lineAt row t next = cond (isLine row t) (answer (placed (fieldsOf row t) next)) 
 -- what stands at a place of a text
 unfoldable pub readLine : ℕ → List ℕ → ℕ → Answer Placed
 readLine row text at = lineAt row (drop at text) (at + lineLength row)
+
+-- a line that is long enough for the fields of a row with these entries
+pub record HasFields (entries : ℕ) (line : List ℕ) : Type 0 where
+  pub row : ℕ
+  pub listed : row < rows
+  pub entries-are : entries ≡ entriesOf row
+  pub long : startOf row fields ≤ length line
 
 -- the frame of a line whose kind and feed are right
 unfoldable pub fieldsLine : ℕ → List ℕ → ℕ → Answer Placed

@@ -88,13 +88,13 @@ entryOf row zero = kindOf row
 entryOf row (suc field) = placeOf row field
 
 -- the first n columns of a row as one number, a byte for each, the first on top
-unfoldable pub columnsTo : ℕ → ℕ → ℕ
-columnsTo zero row = 0
-columnsTo (suc n) row = columnsTo n row * byteValues + entryOf row n
+unfoldable pub entriesTo : ℕ → ℕ → ℕ
+entriesTo zero row = 0
+entriesTo (suc n) row = entriesTo n row * byteValues + entryOf row n
 
 -- a whole row as one number
-abbrev pub columnsOf : ℕ → ℕ
-columnsOf row = columnsTo columns row
+abbrev pub entriesOf : ℕ → ℕ
+entriesOf row = entriesTo columns row
 
 -- the digit of a line at which a field starts
 unfoldable pub startOf : ℕ → ℕ → ℕ

@@ -1,7 +1,9 @@
 // Lines: a frame's fields, spelt at the places that the table gives, and a line feed.
 use super::table::FIELDS;
+use super::table::entries_of;
 use super::table::kind_of;
 use super::table::length_of;
+use super::table::start_in;
 use super::table::start_of;
 use digits::BYTE_VALUES;
 use digits::Number;
@@ -9,12 +11,12 @@ use digits::digit_values;
 use digits::put_number;
 use digits::read_number;
 ghost use mathlib.Core.Path.{_≡_};
-ghost use Prim.Native.Nat.{_+_, _<_, _≤_};
+ghost use Prim.Native.Nat.{ℕ, _+_, _<_, _≤_};
 ghost use lib.ListN.{length, take, drop};
 ghost use Rattle.base.specs.Answer.{over};
-ghost use Rattle.frame.specs.Table.{rows, fields, startOf, digitsOf, lineLength};
+ghost use Rattle.frame.specs.Table.{rows, fields, startOf, digitsOf, lineLength, entriesOf};
 ghost use Rattle.digits.specs.Hexadecimal.{digitValues, numberIn, spell};
-ghost use Rattle.frame.specs.Line.{fieldsFrom, listOf, answerOf, lineAt, readLine, fieldsLine, lineOf};
+ghost use Rattle.frame.specs.Line.{fieldsFrom, listOf, answerOf, lineAt, readLine, fieldsLine, lineOf, HasFields};
 
 const LINE_FEED: u8 = 10;
 
@@ -64,14 +66,14 @@ pub enum Line {
     Refused,
 }
 
-// The number that a field of a line spells.
-fn read_field(line: &[u8], row: usize, field: usize, values: &[u8; BYTE_VALUES]) -> Number
-    requires { ⌜ (row < rows) × (field < fields) × (startOf row fields ≤ length (now line)) ×
-        (now values ≡ digitValues) ⌝ }
-    ensures { λ r. ⌜ r ≡ numberIn (take (digitsOf row field) (drop (startOf row field) (now (line .entry)))) ⌝ }
+// The number that a field of a line spells, by the entries of its row.
+fn read_field(line: &[u8], entries: u64, field: usize, values: &[u8; BYTE_VALUES]) -> Number
+    requires { ⌜ HasFields entries (now line) × (field < fields) × (now values ≡ digitValues) ⌝ }
+    ensures { λ r. ⌜ ((row : ℕ) → row < rows → entries ≡ entriesOf row
+        → r ≡ numberIn (take (digitsOf row field) (drop (startOf row field) (now (line .entry))))) ⌝ }
 {
-    let start = start_of(row, field);
-    let end = start_of(row, field + 1);
+    let start = start_in(entries, field);
+    let end = start_in(entries, field + 1);
     read_number(&line[start..end], values)
 }
 
@@ -91,10 +93,11 @@ fn read_fields(line: &[u8], row: usize, next: usize, values: &[u8; BYTE_VALUES])
     requires { ⌜ (row < rows) × (startOf row fields ≤ length (now line)) × (now values ≡ digitValues) ⌝ }
     ensures { λ r. ⌜ answerOf r ≡ fieldsLine row (now (line .entry)) next ⌝ }
 {
+    let entries = entries_of(row);
     let mut numbers = [0u64; FIELDS];
     let mut k = 0;
     while k < FIELDS {
-        let Number::Spelt(number) = read_field(line, row, k, values) else {
+        let Number::Spelt(number) = read_field(line, entries, k, values) else {
             return Line::Refused;
         };
         numbers[k] = number;

@@ -1,15 +1,18 @@
 // The one table of frames: their kinds, the places of their fields and their lengths.
 use digits::BYTE_VALUES;
 ghost use mathlib.Core.Path.{_≡_};
-ghost use Prim.Native.Nat.{_<_, _≤_};
-ghost use Rattle.frame.specs.Table.{rows, columns, fields, entryOf, columnsOf, kindOf, startOf, digitsOf};
+ghost use Prim.Native.Nat.{ℕ, _<_, _≤_};
+ghost use Rattle.frame.specs.Table.{rows, columns, fields, entryOf, entriesOf, kindOf, startOf, digitsOf};
 ghost use Rattle.frame.specs.Table.{lineLength};
+ghost use Rattle.digits.specs.Hexadecimal.{byteValues};
 
 // How many fields a frame can have.
 pub const FIELDS: usize = 5;
 
 // The columns of the table: the kind, the place of each field, the length.
 const COLUMNS: usize = 1 + FIELDS + 1;
+
+const ROWS: usize = 9;
 
 const BYTE_BITS: usize = 8;
 
@@ -32,33 +35,44 @@ pub const SPAN: usize = 7;
 
 pub const REFUSAL: usize = 8;
 
-// A row's columns, a byte each, the first on top: the kind, the byte at which each field starts, and the length in
-// bytes. A field ends where the next one starts; an absent field has no bytes. A row is a number, and the table no
-// constant array, since the compiled code would build the array anew for each entry that is read.
-fn columns_of(row: usize) -> u64
+// A row of the table is one number, with a byte for each column: the kind, the byte at which each field starts, and the
+// length in bytes. A field ends where the next one starts; an absent field has no bytes.
+const TABLE: [u64; ROWS] = [
+    0x01_01_03_05_05_05_05,
+    0x02_01_03_05_07_0b_0b,
+    0x03_01_03_05_07_07_07,
+    0x04_01_03_03_03_03_03,
+    0x05_01_03_03_03_03_03,
+    0x06_01_09_11_11_11_11,
+    0x08_01_03_05_07_07_07,
+    0x09_01_03_05_06_0a_0a,
+    0x0f_01_02_02_02_02_02,
+];
+
+// A row of the table.
+pub fn entries_of(row: usize) -> u64
     requires { ⌜ row < rows ⌝ }
-    ensures { λ r. ⌜ r ≡ columnsOf row ⌝ }
+    ensures { λ r. ⌜ r ≡ entriesOf row ⌝ }
 {
-    match row {
-        HEAD => 0x01_01_03_05_05_05_05,
-        EDGE => 0x02_01_03_05_07_0b_0b,
-        STEP => 0x03_01_03_05_07_07_07,
-        DROPPED => 0x04_01_03_03_03_03_03,
-        KEPT => 0x05_01_03_03_03_03_03,
-        COSTS => 0x06_01_09_11_11_11_11,
-        TABLE_HEAD => 0x08_01_03_05_07_07_07,
-        SPAN => 0x09_01_03_05_06_0a_0a,
-        _ => 0x0f_01_02_02_02_02_02,
-    }
+    TABLE[row]
 }
 
-// A column of a row.
-fn entry(row: usize, column: usize) -> usize
-    requires { ⌜ (row < rows) × (column < columns) ⌝ }
-    ensures { λ r. ⌜ r ≡ entryOf row column ⌝ }
+// A column of every row that has these entries.
+fn entry_in(entries: u64, column: usize) -> usize
+    requires { ⌜ column < columns ⌝ }
+    ensures { λ r. ⌜ (r < byteValues) × ((row : ℕ) → row < rows → entries ≡ entriesOf row → r ≡ entryOf row column) ⌝ }
 {
     let behind = COLUMNS - 1 - column;
-    (columns_of(row) >> (BYTE_BITS * behind)) as usize % BYTE_VALUES
+    (entries >> (BYTE_BITS * behind)) as usize % BYTE_VALUES
+}
+
+// The digit at which a field starts in a line of every row that has these entries; behind the last field, how many
+// digits the line has.
+pub fn start_in(entries: u64, field: usize) -> usize
+    requires { ⌜ field ≤ fields ⌝ }
+    ensures { λ r. ⌜ ((row : ℕ) → row < rows → entries ≡ entriesOf row → r ≡ startOf row field) ⌝ }
+{
+    2 * entry_in(entries, field + 1)
 }
 
 // The kind of a row's frames.
@@ -66,7 +80,7 @@ pub fn kind_of(row: usize) -> u64
     requires { ⌜ row < rows ⌝ }
     ensures { λ r. ⌜ r ≡ kindOf row ⌝ }
 {
-    entry(row, 0) as u64
+    entry_in(entries_of(row), 0) as u64
 }
 
 // The digit of a line at which a field starts; behind the last field, how many digits the line has.
@@ -74,7 +88,7 @@ pub fn start_of(row: usize, field: usize) -> usize
     requires { ⌜ (row < rows) × (field ≤ fields) ⌝ }
     ensures { λ r. ⌜ r ≡ startOf row field ⌝ }
 {
-    2 * entry(row, field + 1)
+    start_in(entries_of(row), field)
 }
 
 // How many digits a field has.

@@ -69,5 +69,6 @@ passBehind text (refused k) = record { refusal = k; place = 0; read = 0; network
 passBehind text (answer (found h first)) =
     let n = h .vertices in passOver h (runOf text n (2 * n) 0 first)
 
+-- the pass over a text
 unfoldable pub passOf : List ℕ → Pass
 passOf text = passBehind text (readHead text)

@@ -1,26 +1,18 @@
 -- `frame::table::start_of` meets its contract.
 -- Assumes nothing.
-use native.Mathlib.Omega.{arith}
 use borrow.Author.Needs.{needs}
-use Rattle.frame.proofs.Rows.{start-entry, start-small}
 use Rattle.frame.proofs.table.start_of.Statement.{statement}
 use Rattle.frame.proofs.table.start_of.Tie as tie
 
-add-entry : tie.Need-add-entry
-add-entry c = search needs
+entries-of-requires : tie.Need-entries-of-requires
+entries-of-requires c κs = search needs
 
-entry-requires : tie.Need-entry-requires
-entry-requires c κs = search needs
-
-mul-result : tie.Need-mul-result
-mul-result c =
-    let s = c .before in
-    let row = s .args .row in
-    let field = s .args .field in
-    omega (arith, start-entry row field, start-small row (s .pre .0) field (s .pre .1))
+start-in-requires : tie.Need-start-in-requires
+start-in-requires c κs = search needs
 
 returns : tie.Need-returns
-returns c = omega (arith, start-entry (c .before .args .row) (c .before .args .field))
+returns c =
+    let s = c .before .before in c .start-in .ensures (s .args .row) (s .pre .0) (c .before .entries-of .ensures)
 
 pub start-of-spec : {M : Type 1} → statement M
-start-of-spec = tie.close (tie.spec add-entry entry-requires mul-result returns)
+start-of-spec = tie.close (tie.spec entries-of-requires start-in-requires returns)
