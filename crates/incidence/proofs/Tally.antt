@@ -38,8 +38,9 @@ module _ (f : ℕ → ℕ) where
   pub tally-below : (k : ℕ) → ((v : ℕ) → f v ≤ k) → (v : ℕ) → getD (tabulate vertexLimit f) v 0 ≤ k
   tally-below k below v = elim (decLt v vertexLimit) [
     | yes l ↦ rw (tabulate-at vertexLimit f 0 v l) (below v)
-    | no o ↦ rw (List·getD-eq-default (tabulate vertexLimit f) 0 {n = v} (rw (tabulate-length vertexLimit f) (omega arith)))
-        (omega arith)
+    | no o ↦
+        let out : vertexLimit ≤ v = omega arith in
+        rw (List·getD-eq-default (tabulate vertexLimit f) 0 {n = v} (rw (tabulate-length vertexLimit f) out)) (omega arith)
   ]
 
   -- with both ends of one more edge counted it has g, which says one more for each end

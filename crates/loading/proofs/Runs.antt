@@ -128,7 +128,12 @@ module _ (text : List ℕ) (n : ℕ) where
   pub ran : (k i at : ℕ) → Ran text n k i at (runOf text n k i at)
   unfolding runOf onward
   ran zero i at =
-      record { few = omega arith; read = λ j l. absurd (omega arith); refuses = λ l. absurd (omega arith); place = omega arith }
+      record {
+        few = omega arith;
+        read = λ j l. absurd (omega arith);
+        refuses = λ l. absurd (omega arith);
+        place = omega arith;
+      }
   ran (suc k) i at = by-frame (readEdge text at n i) refl (λ next. ran k (suc i) next)
     where
       by-frame : (a : Answer (Found Edge)) → a ≡ readEdge text at n i

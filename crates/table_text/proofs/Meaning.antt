@@ -33,8 +33,8 @@ use Rattle.network_text.specs.Text.{Meaning, Valid, networkText, writeNetwork}
 use Rattle.network_text.proofs.Whole.{AllPassed, valid}
 use Rattle.network_text.proofs.OneToOne.{passed-written}
 use Rattle.table_text.specs.Frames.{countRefusal, weightOk, above, spanRefusal, tableHeadIn, readTableHead}
-use Rattle.table_text.specs.Text.{Table, SpanFine, SpansFine, spansIn, weights, totalled, tableBehind, readTable, copies, expanded}
-use Rattle.table_text.specs.Text.{standsFor, readExpanded, tableText}
+use Rattle.table_text.specs.Text.{Table, SpanFine, SpansFine, spansIn, weights, totalled, tableBehind, readTable}
+use Rattle.table_text.specs.Text.{copies, expanded, standsFor, readExpanded, tableText}
 use Rattle.table_text.proofs.Passed.{span-passed, TableHeadPassed, table-head-fine}
 use Rattle.table_text.proofs.Expanding.{length-copies, length-expanded}
 
@@ -59,7 +59,8 @@ spans n l h (frame f fs) ss x =
     go : let s = spanOf f in
         (k : ℕ) → spanRefusal n l h s ≡ k → (a : Answer (List Span)) → spansIn n (s .lower) (s .higher) fs ≡ a
         → (ss : List Span)
-        → ((later : List Span) → spansIn n (s .lower) (s .higher) fs ≡ answer later → Spans n (s .lower) (s .higher) fs later)
+        → ((later : List Span) → spansIn n (s .lower) (s .higher) fs ≡ answer later
+        → Spans n (s .lower) (s .higher) fs later)
         → unless k (andThen a (λ later. answer (s ∷ later))) ≡ answer ss → Spans n l h (frame f fs) ss
     go (suc k) p a q ss i x = no-answer (cc)
     go zero p (refused j) q ss i x = no-answer (cc)
@@ -187,7 +188,8 @@ expanded-passed : (n l h k : ℕ) (ss : List Span) → SpansFine n l h ss → Al
 unfolding expanded
 expanded-passed n l h k [] p = tt
 expanded-passed n l h k (s ∷ ss) p =
-    passed-append n k (copies (s .weight) k s) (expanded (k + s .weight) ss) (copies-passed n l h (s .weight) k s (p .0))
+    passed-append n k (copies (s .weight) k s) (expanded (k + s .weight) ss)
+    (copies-passed n l h (s .weight) k s (p .0))
     (rw (length-copies (s .weight) k s) (expanded-passed n (s .lower) (s .higher) (k + s .weight) ss (p .1)))
 
 -- ── the network that a table stands for ──

@@ -21,8 +21,8 @@ use Rattle.network_frames.specs.Frames.{headRefusal, Found, found}
 use Rattle.network_frames.proofs.Passed.{HeadPassed, head-passed}
 use Rattle.network_frames.proofs.Cases.{own-number}
 use Rattle.table_text.specs.Text.{SpanFine}
-use Rattle.table_text.specs.Frames.{countRefusal, leastWeight, mostWeight, weightOk, above, spanRefusal, headAnswer}
-use Rattle.table_text.specs.Frames.{spanAnswer, tableHeadIn, readTableHead}
+use Rattle.table_text.specs.Frames.{countRefusal, leastWeight, mostWeight, weightOk, above, spanRefusal}
+use Rattle.table_text.specs.Frames.{headAnswer, spanAnswer, tableHeadIn, readTableHead}
 use Rattle.table_text.specs.declared.frames.ReadTableHead.{ReadTableHead}
 use Rattle.table_text.specs.declared.frames.ReadTableHead.the-variants as head
 use Rattle.table_text.specs.declared.frames.ReadSpan.{ReadSpan}

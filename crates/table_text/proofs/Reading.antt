@@ -25,8 +25,8 @@ use Rattle.frame.specs.declared.kinds.Edge.{Edge}
 use Rattle.frame.proofs.Runs.{next-read, only-form, run-next, run-broken, run-left, run-done}
 use Rattle.network_frames.specs.Frames.{found}
 use Rattle.table_text.specs.Frames.{mostWeight, spanRefusal, readTableHead, spanIn, readSpan}
-use Rattle.table_text.specs.Text.{Table, SpanFine, spansIn, weights, totalled, tableBehind, readTable, expanded, standsFor}
-use Rattle.table_text.specs.Text.{readExpanded}
+use Rattle.table_text.specs.Text.{Table, SpanFine, spansIn, weights, totalled, tableBehind, readTable}
+use Rattle.table_text.specs.Text.{expanded, standsFor, readExpanded}
 use Rattle.table_text.specs.Columns.{Roomy, Layable, laid}
 use Rattle.table_text.proofs.Passed.{span-passed, TableHeadPassed, table-head-fine}
 use Rattle.table_text.proofs.Laying.{storing-laid}

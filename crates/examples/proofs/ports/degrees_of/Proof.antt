@@ -36,7 +36,8 @@ loop-less c = omega arith
 
 loop-again : tie.Need-loop-again Inv-loop μ-loop
 loop-again c =
-    (omega arith, c .tally-edge .ensures ∙ rw (c .before .before .before .before .before .loop .inv .1) (one-more-edge _ _))
+    let l = c .before .before .before .before .before .loop in
+    (omega arith, c .tally-edge .ensures ∙ rw (l .inv .1) (one-more-edge _ _))
 
 returns : tie.Need-returns Inv-loop μ-loop
 returns c =

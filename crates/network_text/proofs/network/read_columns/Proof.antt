@@ -83,7 +83,8 @@ returns-2 c =
     let l = e .before .before in
     let x = edge-number (e .read-edge .ensures) (c .before .enum-told2 .given .1) (c .refusal2 .ensures) in
     let w = l .loop .inv in
-    columns-refused (reading-refused w (e .before .loop-test .taken) x) (w .lows .size) (w .highs .size) (w .costs .size)
+    columns-refused (reading-refused w (e .before .loop-test .taken) x) (w .lows .size) (w .highs .size)
+    (w .costs .size)
 
 -- the edge that was read, and that it has passed
 edge : (c : tie.After-known-told2 Inv-loop μ-loop) →

@@ -14,7 +14,8 @@ all-four-requires c κs = search needs
 -- what the tally says of the degrees
 four : (c : tie.After-all-four) → c .all-four .result ≡ fourEach (c .before .args .network)
 four c =
-    c .all-four .ensures ∙ rw (c .before .pre .1) (four-in-tally (c .before .args .network) (c .before .pre .0 .vertex-room))
+    let s = c .before in
+    c .all-four .ensures ∙ rw (s .pre .1) (four-in-tally (s .args .network) (s .pre .0 .vertex-room))
 
 returns : tie.Need-returns
 returns c = degree-refused _ (sym (four (c .before)) ∙ not-true _ (c .if1 .taken))
