@@ -40,7 +40,8 @@ module _ (f : ℕ → ℕ) where
     | yes l ↦ rw (tabulate-at vertexLimit f 0 v l) (below v)
     | no o ↦
         let out : vertexLimit ≤ v = omega arith in
-        rw (List·getD-eq-default (tabulate vertexLimit f) 0 {n = v} (rw (tabulate-length vertexLimit f) out)) (omega arith)
+        rw (List·getD-eq-default (tabulate vertexLimit f) 0 {n = v} (rw (tabulate-length vertexLimit f) out))
+        (omega arith)
   ]
 
   -- with both ends of one more edge counted it has g, which says one more for each end
