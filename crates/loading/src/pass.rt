@@ -72,17 +72,15 @@ pub fn one_pass(text: &[u8]) -> Pass
     ensures { λ r. ⌜ r ≡ passOf (now (text .entry)) ⌝ }
 {
     let start = read_head(text);
-    match start {
-        ReadHead::Read(head, first) => pass_behind(text, head, first),
-        ReadHead::Refused(refusal) => {
-            let network = nothing();
-            Pass {
-                refusal,
-                place: 0,
-                read: 0,
-                network,
-                tally: [0; VERTEX_LIMIT],
-            }
-        }
-    }
+    let ReadHead::Read(head, first) = start else {
+        let network = nothing();
+        return Pass {
+            refusal: start.refusal(),
+            place: 0,
+            read: 0,
+            network,
+            tally: [0; VERTEX_LIMIT],
+        };
+    };
+    pass_behind(text, head, first)
 }

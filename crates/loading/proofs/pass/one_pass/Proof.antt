@@ -3,7 +3,7 @@ use mathlib.Core.Path.{_≡_, _∙_}
 use borrow.Author.Needs.{needs}
 use Rattle.base.specs.Answer.{answer}
 use Rattle.network_frames.specs.Frames.{found, readHead}
-use Rattle.network_frames.proofs.Cases.{head-as}
+use Rattle.network_frames.proofs.Cases.{head-as, head-number}
 use Rattle.network_frames.proofs.Passed.{head-fine}
 use Rattle.loading.specs.Pass.{passBehind, passOf}
 use Rattle.loading.proofs.Counting.{counted-none}
@@ -16,6 +16,22 @@ read-head-requires c κs = search needs
 enum-known-start : tie.Need-enum-known-start
 enum-known-start c = search needs
 
+enum-told : tie.Need-enum-told
+enum-told c = search needs
+
+nothing-requires : tie.Need-nothing-requires
+nothing-requires c κs = search needs
+
+refusal-requires : tie.Need-refusal-requires
+refusal-requires c κs = search needs
+
+returns : tie.Need-returns
+unfolding passOf passBehind
+returns c =
+    let e = c .before .before in
+    let x = head-number (e .before .before .read-head .ensures) (e .enum-told .given .1) (c .refusal .ensures) in
+    rw (← x, c .before .nothing .ensures, counted-none)
+
 -- the head that was read
 head : (c : tie.After-known-told) →
     answer (found (c .before .start .given .0 .0) (c .before .start .given .0 .1 .0))
@@ -25,21 +41,9 @@ head c = head-as (c .before .before .before .read-head .ensures) (c .before .sta
 pass-behind-requires : tie.Need-pass-behind-requires
 pass-behind-requires c κs = head-fine _ (head c) .few
 
-enum-known-start-2 : tie.Need-enum-known-start-2
-enum-known-start-2 c = search needs
-
-nothing-requires : tie.Need-nothing-requires
-nothing-requires c κs = search needs
-
-returns : tie.Need-returns
-unfolding passOf passBehind
-returns c = c .pass-behind .ensures ∙ rw (← head (c .before))
-
 returns-2 : tie.Need-returns-2
 unfolding passOf passBehind
-returns-2 c =
-    let s = c .before .before in
-    rw (← head-as (s .before .before .read-head .ensures) (s .start2 .given .1), c .nothing .ensures, counted-none)
+returns-2 c = c .pass-behind .ensures ∙ rw (← head (c .before))
 
 pub one-pass-spec : {M : Type 1} → statement M
 one-pass-spec =
@@ -47,8 +51,9 @@ one-pass-spec =
     (tie.spec
     read-head-requires
     enum-known-start
-    pass-behind-requires
-    enum-known-start-2
+    enum-told
     nothing-requires
+    refusal-requires
     returns
+    pass-behind-requires
     returns-2)
