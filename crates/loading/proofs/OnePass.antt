@@ -25,16 +25,17 @@ use Rattle.loading.specs.declared.pass.Pass.{Pass}
 use Rattle.loading.proofs.Counting.{counted-most, low-read, high-read, cost-read, counted-at, all-counted}
 use Rattle.loading.proofs.Runs.{nth, run-decides, ran}
 
+-- an answer unless there is a refusal, made into another
+then-unless : {M N : Type 0} (k : ℕ) (m : M) (f : M → N)
+    → andThen (unless k (answer m)) (λ x. answer (f x)) ≡ unless k (answer (f m))
+unfolding andThen unless
+then-unless zero m f = refl
+then-unless (suc k) m f = refl
+
 module _ (t : List ℕ) where
   -- a head that is refused has a number
   numbered : {k : ℕ} → refused k ≡ readHead t → 0 < k
   numbered {k} x = read-numbered t .number k (head-refused t x) .0
-
-  then-unless : {M N : Type 0} (k : ℕ) (m : M) (f : M → N)
-      → andThen (unless k (answer m)) (λ x. answer (f x)) ≡ unless k (answer (f m))
-  unfolding andThen unless
-  then-unless zero m f = refl
-  then-unless (suc k) m f = refl
 
   as-read : loadNetwork t ≡ unless (passOf t .refusal) (answer (passOf t .network))
   unfolding loadNetwork passOf passBehind passOver
