@@ -1,16 +1,20 @@
 -- Laws of the numbers that a test picks.
-use mathlib.Core.Path.{_≡_, refl, sym, _∙_, ap}
+use mathlib.Core.Path.{_≡_, refl, sym, _∙_, ap, ap₂}
 use mathlib.Core.Logic.{_≢_}
 use mathlib.Core.Bool.{Bool, true, false, cond}
-use mathlib.Core.List.{List, [], _∷_, _++_}
+use mathlib.Core.List.{List, [], _∷_, _++_, append-nil}
 use Prim.Native.Nat.{ℕ, zero, suc, _+_, _-_, _≤_, _<_}
 use native.Mathlib.Numerals.{add-one}
 use native.Mathlib.Omega.{arith}
 use native.Mathlib.Nat.{add-suc, suc-add, add-zero, zero-add, sub-zero}
 use native.Mathlib.Decide.{ℕ-discrete}
-use lib.ListN.{length}
+use lib.Dec.{eqb}
+use lib.ListN.{length, getD, length-append, List·getD-append}
+use lib.Seq.{getD-append-seam}
 use Rattle.base.specs.Fold.{fold, sum, bit, pick, among}
+use Rattle.base.specs.Words.{AllBelow}
 use Rattle.base.proofs.Bools.{no-answer, never, eqb-self, eqb-no}
+use Rattle.base.proofs.Sums.{fold-ext}
 
 -- no more are picked than are looked at
 pub pick-few : (n k : ℕ) (p : ℕ → Bool) → length (pick n k p) ≤ n
@@ -154,3 +158,79 @@ pick-beyond p zero zero k h = refl
 pick-beyond p zero (suc more) k h =
     rw (zero-add, h k (omega arith)) (rw zero-add at (pick-beyond p zero more (suc k) (λ i l. h i (omega arith))))
 pick-beyond p (suc n) more k h = rw (suc-add, pick-beyond p n more (suc k) (λ i l. h i (omega arith)))
+
+-- ── numbers that rise ──
+
+-- numbers from a least one on, each above the one before and below a bound
+abbrev pub Rising : ℕ → ℕ → List ℕ → Type 0
+Rising least bound [] = Unit
+Rising least bound (i ∷ is) = (least ≤ i) × (i < bound) × Rising (suc i) bound is
+
+pub rising-below : (least bound : ℕ) (is : List ℕ) → Rising least bound is → AllBelow bound is
+rising-below least bound [] r = tt
+rising-below least bound (i ∷ is) r = (r .1, rising-below (suc i) bound is (r .2))
+
+-- a number before the least one stands nowhere among them
+rising-absent : (least bound : ℕ) (is : List ℕ) → Rising least bound is → (k : ℕ) → k < least → among k is ≡ false
+unfolding among
+rising-absent least bound [] r k h = refl
+rising-absent least bound (i ∷ is) r k h =
+    rw (eqb-no {a = k} {b = i} (λ e. absurd (omega arith)))
+    (rising-absent (suc i) bound is (r .2) k (omega arith))
+
+-- what is picked by standing among numbers that rise is these numbers
+pub pick-rising : (n k : ℕ) (is : List ℕ) → Rising k (k + n) is → pick n k (λ i. among i is) ≡ is
+unfolding pick among
+pick-rising zero k [] r = refl
+pick-rising zero k (i ∷ is) r = absurd (omega arith)
+pick-rising (suc n) k [] r = pick-rising n (suc k) [] tt
+pick-rising (suc n) k (i ∷ is) r =
+    let e : k + suc n ≡ suc k + n = omega arith in
+    elim (ℕ-discrete k i) [
+      | yes q ↦
+          let later : Rising (suc k) (suc k + n) is = rw (← q, e) at (r .2) in
+          rw (eqb-yes q) (ap₂ _∷_ q (pick-ext n (suc k) _ (λ j. among j is) (past q) ∙ pick-rising n (suc k) is later))
+      | no q ↦
+          let least : Rising (suc k) (suc k + n) (i ∷ is) = (omega arith, omega arith, rw (← e) (r .2)) in
+          rw (eqb-no q, rising-absent (suc i) _ is (r .2) k (omega arith)) (pick-rising n (suc k) (i ∷ is) least)
+    ]
+  where
+    eqb-yes : {a b : ℕ} → a ≡ b → eqb a b ≡ true
+    eqb-yes {a} {b} q = rw q (eqb-self b)
+
+    past : k ≡ i → (j : ℕ) → suc k ≤ j → j < suc k + n → among j (i ∷ is) ≡ among j is
+    past q j a b = rw (eqb-no {a = j} {b = i} (λ e. absurd (omega arith)))
+
+-- ── what is put together of the picked numbers alone ──
+
+-- terms that are the unit where a number is not picked put nothing to the others
+pub fold-picked : {A : Type 0} (op : A → A → A) (unit : A) → ((a : A) → op a unit ≡ a) → (p : ℕ → Bool) (f : ℕ → A)
+    (n : ℕ) → fold op unit n (λ i. cond (p i) (f i) unit)
+    ≡ fold op unit (length (pick n 0 p)) (λ i. f (getD (pick n 0 p) i 0))
+unfolding fold pick
+fold-picked op unit right p f zero = refl
+fold-picked {A} op unit right p f (suc n) = go (p n) refl (fold-picked op unit right p f n)
+  where
+    terms : List ℕ → A
+    terms is = fold op unit (length is) (λ i. f (getD is i 0))
+
+    -- one number behind the others
+    behind : (is : List ℕ) → terms (is ++ (n ∷ [])) ≡ op (terms is) (f n)
+    behind is =
+        ap (λ k. fold op unit k (λ i. f (getD (is ++ (n ∷ [])) i 0))) (length-append is (n ∷ []) ∙ add-one (length is))
+        ∙ ap₂ op
+        (fold-ext op unit (length is) _ _ (λ i l. ap f (List·getD-append is (n ∷ []) 0 i l)))
+        (ap f (getD-append-seam is n [] 0))
+
+    -- the last number that is looked at, picked or not
+    last : (is : List ℕ) → cond (p (0 + n)) ((0 + n) ∷ []) [] ≡ is → pick (suc n) 0 p ≡ pick n 0 p ++ is
+    last is e = pick-more n 0 p ∙ ap (λ js. pick n 0 p ++ js) e
+
+    go : (t : Bool) → p n ≡ t → fold op unit n (λ i. cond (p i) (f i) unit) ≡ terms (pick n 0 p)
+        → op (fold op unit n (λ i. cond (p i) (f i) unit)) (cond (p n) (f n) unit) ≡ terms (pick (suc n) 0 p)
+    go true e ih =
+        ap₂ op ih (ap (λ t. cond t (f n) unit) e) ∙ sym (behind (pick n 0 p))
+        ∙ ap terms (sym (last (n ∷ []) (rw (zero-add n, e))))
+    go false e ih =
+        ap₂ op ih (ap (λ t. cond t (f n) unit) e) ∙ right (terms (pick n 0 p))
+        ∙ ap terms (sym (last [] (rw (zero-add n, e)) ∙ append-nil (pick n 0 p)))

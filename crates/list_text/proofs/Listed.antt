@@ -14,6 +14,7 @@ use Rattle.base.proofs.Bools.{no-answer}
 use Rattle.base.proofs.LimitLaws.{vertices-within}
 use Rattle.base.proofs.Numbered.{Numbered, refused-by, then-meeting}
 use Rattle.base.proofs.Numbered.{answered as answered-by}
+use Rattle.base.proofs.Picks.{Rising, rising-below}
 use Rattle.base.proofs.Words.{below-at}
 use Rattle.frame.specs.Table.{KEPT}
 use Rattle.frame.specs.Kinds.{keptOf}
@@ -32,14 +33,14 @@ pub record Answered (n least : ℕ) (fs : Frames) (m : Meaning) : Type 0 where
   pub frames : List Fields
   pub all : fs ≡ listed frames
   pub edges : m ≡ map namedEdge frames
-  pub below : AllBelow (2 * n) m
+  pub rises : Rising least (2 * n) m
   pub few : least ≤ 2 * n → least + length m ≤ 2 * n
 
 answered : (n least : ℕ) (fs : Frames) (m : Meaning) → risingFrom n least fs ≡ answer m → Answered n least fs m
 unfolding risingFrom listed andThen namedEdge
 answered n least done m e =
     let p : m ≡ [] = cc in
-    rw p (record { frames = []; all = refl; edges = refl; below = tt; few = λ h. omega arith })
+    rw p (record { frames = []; all = refl; edges = refl; rises = tt; few = λ h. omega arith })
 answered n least broken m e = no-answer (cc)
 answered n least (frame f fs) m e =
     let later = risingFrom n (suc (namedEdge f)) fs in
@@ -60,7 +61,7 @@ answered n least (frame f fs) m e =
           frames = f ∷ w .frames;
           all = ap (frame f) (w .all);
           edges = ap (λ (l : List ℕ). namedEdge f ∷ l) (w .edges);
-          below = (o .inside, w .below);
+          rises = (o .above, o .inside, w .rises);
           few = λ h. omega (arith, w .few (o .inside));
         })
 
@@ -105,8 +106,11 @@ module _ (n : ℕ) (t : List ℕ) (m : Meaning) (e : readList n t ≡ answer m) 
   pub list-few : length m ≤ edgeLimit
   list-few = unfold readList in few-edges n (framesToEnd KEPT t) m e
 
+  pub list-rising : Rising 0 (2 * n) m
+  list-rising = unfold readList in frames-answered n (framesToEnd KEPT t) m e .1 .rises
+
   pub list-below : AllBelow (2 * n) m
-  list-below = unfold readList in frames-answered n (framesToEnd KEPT t) m e .1 .below
+  list-below = rising-below 0 (2 * n) m list-rising
 
   pub list-below-at : (i : ℕ) → i < length m → getD m i 0 < 2 * n
   list-below-at = below-at (2 * n) m list-below

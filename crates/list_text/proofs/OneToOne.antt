@@ -11,6 +11,7 @@ use Rattle.base.specs.Answer.{Answer, refused, answer, andThen}
 use Rattle.base.specs.Limits.{verticesOk}
 use Rattle.base.specs.Refusals.{VERTICES}
 use Rattle.base.specs.Words.{Words}
+use Rattle.base.proofs.Picks.{rising-below}
 use Rattle.base.proofs.Bools.{no-answer}
 use Rattle.base.proofs.Words.{below-more}
 use Rattle.frame.specs.Table.{KEPT, widths, bytesOf, padded}
@@ -47,7 +48,7 @@ read-written n m t e = go (listIn n (listed (map frameOf m))) refl e
     go (answer es) p e =
         let w = frames-answered n (listed (map frameOf m)) es p in
         let d = same-edges n m es p in
-        let short : Words m = rw d at (below-more (2 * n) (2 ^ 16) (omega arith) es (w .1 .below)) in
+        let short : Words m = rw d at (below-more (2 * n) (2 ^ 16) (omega arith) es (rising-below 0 (2 * n) es (w .1 .rises))) in
         let q : t ≡ listText m = cc in
         rw (q, found m short) (p ∙ ap answer d)
 

@@ -91,24 +91,41 @@ module _ (t l : List ℕ) where
     unfolding loadList andThen
     list-loaded es h m = rw (e, h, m)
 
-  -- what is known of the network
-  pub list-known : (g : Network) (K : List Bool) → loadList t l ≡ answer (g, K) → Known g
+  -- the network and the edges that were read
+  pub record Found (g : Network) (K : List Bool) : Type 0 where
+    pub network : loadNetwork t ≡ answer g
+    pub edges : List ℕ
+    pub list : readList (g .vertices) l ≡ answer edges
+    pub marks : K ≡ listedMarks edges
+
+  pub list-found : (g : Network) (K : List Bool) → loadList t l ≡ answer (g, K) → Found g K
   unfolding loadList andThen
-  list-known g K e = go (loadNetwork t) refl e
+  list-found g K e = go (loadNetwork t) refl e
     where
       marked : Network → Answer (List ℕ) → Answer (Network × List Bool)
       marked h a = andThen a (λ es. answer (h, listedMarks es))
 
-      read : (h : Network) (a : Answer (List ℕ)) → marked h a ≡ answer (g, K) → h ≡ g
-      read h (refused k) e = no-answer (cc)
-      read h (answer es) e =
+      read : (h : Network) → loadNetwork t ≡ answer h → (a : Answer (List ℕ)) → readList (h .vertices) l ≡ a
+          → marked h a ≡ answer (g, K) → Found g K
+      read h q (refused k) r e = no-answer (cc)
+      read h q (answer es) r e =
           let both : _≡_ {A = Network × List Bool} (h, listedMarks es) (g, K) = cc in
-          ap (λ x. x .0) both
+          let same = ap (λ x. x .0) both in
+          record {
+            network = q ∙ ap answer same;
+            edges = es;
+            list = ap (λ (x : Network). readList (x .vertices) l) (sym same) ∙ r;
+            marks = sym (ap (λ x. x .1) both);
+          }
 
       go : (a : Answer Network) → loadNetwork t ≡ a
-          → andThen a (λ h. marked h (readList (h .vertices) l)) ≡ answer (g, K) → Known g
+          → andThen a (λ h. marked h (readList (h .vertices) l)) ≡ answer (g, K) → Found g K
       go (refused k) q e = no-answer (cc)
-      go (answer h) q e = loaded-known t g (q ∙ ap answer (read h (readList (h .vertices) l) e))
+      go (answer h) q e = read h q (readList (h .vertices) l) refl e
+
+  -- what is known of the network
+  pub list-known : (g : Network) (K : List Bool) → loadList t l ≡ answer (g, K) → Known g
+  list-known g K e = loaded-known t g (list-found g K e .network)
 
 -- ── what was loaded, by its refusal ──
 
