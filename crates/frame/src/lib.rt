@@ -13,6 +13,7 @@ pub use kinds::Span;
 pub use kinds::Step;
 pub use kinds::TableHead;
 pub use line::Fields;
+pub use line::LINE_FEED;
 pub use line::Line;
 pub use line::put_line;
 pub use line::read_line;

@@ -18,7 +18,7 @@ ghost use Rattle.frame.specs.Table.{rows, fields, startOf, digitsOf, lin
 ghost use Rattle.digits.specs.Hexadecimal.{digitValues, numberIn, spell};
 ghost use Rattle.frame.specs.Line.{fieldsFrom, listOf, answerOf, lineAt, readLine, fieldsLine, lineOf, HasFields};
 
-const LINE_FEED: u8 = 10;
+pub const LINE_FEED: u8 = 10;
 
 // How many digits a kind has.
 const KIND_DIGITS: usize = 2;

@@ -19,7 +19,7 @@ ghost use Rattle.list_text.specs.Text.{listText};
 ghost use Rattle.kept_text.specs.Text.{keptEdges, keptText, keptLength, refusalText};
 
 // How many of the first edges are kept.
-fn count_kept(kept: &[bool], edges: usize) -> usize
+pub fn count_kept(kept: &[bool], edges: usize) -> usize
     requires { ⌜ edges ≤ length (now kept) ⌝ }
     ensures { λ r. ⌜ r ≡ length (keptEdges edges (now (kept .entry))) ⌝ }
 {
