@@ -15,7 +15,7 @@ use Rattle.graph.specs.declared.Network.{Network}
 use Rattle.rules.specs.Running.{Keeping}
 use Rattle.claim.specs.Services.{keptTextOf}
 use Rattle.base.proofs.Integers.{read-back}
-use Rattle.rules.proofs.Totals.{kept-small, reserved-small}
+use Rattle.costs.proofs.Totals.{kept-small, reserved-small}
 
 -- how long the text is
 pub kept-length-is : (g : Network) (K : List Bool)

@@ -4,4 +4,3 @@ pub mod Judging
 pub mod Ends
 pub mod Steps
 pub mod Planning
-pub mod Totals

@@ -1,6 +1,5 @@
-// The rules over a network: judging a step and an ending, the planner, and costs.
+// The rules over a network: judging a step and an ending, and the planner.
 mod choice;
-mod costs;
 mod ending;
 mod judge;
 mod others;
@@ -10,8 +9,6 @@ pub use choice::Move;
 pub use choice::Pair;
 pub use choice::chosen_pair;
 pub use choice::chosen_step;
-pub use costs::all_but_reserved;
-pub use costs::kept_cost;
 pub use ending::Ended;
 pub use ending::end_with;
 pub use ending::mark_two;

@@ -15,7 +15,7 @@ use Rattle.graph.specs.declared.Network.{Network}
 use Rattle.kept_text.specs.Text.{costsIn, keptEdges, keptText}
 use Rattle.kept_text.proofs.Texts.{costs-read}
 use Rattle.loading.specs.Loading.{networkOf}
-use Rattle.rules.proofs.Totals.{kept-small, reserved-small}
+use Rattle.costs.proofs.Totals.{kept-small, reserved-small}
 use Rattle.table_text.specs.Text.{Table, readTable, standsFor}
 use Rattle.table_text.proofs.Meaning.{parts, expanded-meeting}
 use Rattle.table_text.proofs.Expanding.{length-expanded, numbered-on}

@@ -1,10 +1,10 @@
 // Writing the kept text of marked edges.
 use base::Reply;
+use costs::all_but_reserved;
+use costs::kept_cost;
 use graph::Kept;
 use graph::Network;
 use kept_text::write_kept;
-use rules::all_but_reserved;
-use rules::kept_cost;
 ghost use mathlib.Core.Path.{_≡_};
 ghost use Rattle.base.specs.Answer.{answer, replyOf, after};
 ghost use Rattle.rules.specs.Running.{Keeping};

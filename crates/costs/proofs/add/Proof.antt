@@ -1,7 +1,7 @@
--- `rules::costs::add` meets its contract.
-use Rattle.rules.proofs.Totals.{sum-fits, sum-is}
-use Rattle.rules.proofs.costs.add.Statement.{statement}
-use Rattle.rules.proofs.costs.add.Tie as tie
+-- `costs::add` meets its contract.
+use Rattle.costs.proofs.Totals.{sum-fits, sum-is}
+use Rattle.costs.proofs.add.Statement.{statement}
+use Rattle.costs.proofs.add.Tie as tie
 
 add-result : tie.Need-add-result
 add-result c = sum-fits (c .args .a) (c .args .b) (c .pre .0) (c .pre .1)

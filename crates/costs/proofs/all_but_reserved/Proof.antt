@@ -1,4 +1,4 @@
--- `rules::costs::all_but_reserved` meets its contract.
+-- `costs::all_but_reserved` meets its contract.
 use mathlib.Core.Path.{_∙_, ap}
 use native.Mathlib.Omega.{arith}
 use borrow.Author.Needs.{needs}
@@ -7,9 +7,9 @@ use lib.ListN.{set, replicate}
 use lib.IntN.{natAbs}
 use Rattle.base.specs.Limits.{edgeLimit}
 use Rattle.base.proofs.Integers.{read-back}
-use Rattle.rules.proofs.Totals.{kept-small, all-marks}
-use Rattle.rules.proofs.costs.all_but_reserved.Statement.{statement}
-use Rattle.rules.proofs.costs.all_but_reserved.Tie as tie
+use Rattle.costs.proofs.Totals.{kept-small, all-marks}
+use Rattle.costs.proofs.all_but_reserved.Statement.{statement}
+use Rattle.costs.proofs.all_but_reserved.Tie as tie
 
 array-write-marks : tie.Need-array-write-marks
 array-write-marks c = search needs

@@ -1,4 +1,4 @@
--- `rules::costs::kept_cost` meets its contract: the sum so far is the cost of the marked edges passed.
+-- `costs::kept_cost` meets its contract: the sum so far is the cost of the marked edges passed.
 use mathlib.Core.Logic.{⊎-elim}
 use mathlib.Core.Path.{_≡_, sym, _∙_, ap, ap₂}
 use Prim.Native.Nat.{_+_, _-_, _≤_}
@@ -7,10 +7,10 @@ use native.Mathlib.Omega.{arith}
 use mir.Syntax.{w64}
 use mir.Val.{toZ}
 use Rattle.graph.proofs.Differences.{cost-below, cost-kept}
-use Rattle.rules.proofs.Totals.{costAmong, among-none, among-marked, among-unmarked, among-small, among-all}
+use Rattle.costs.proofs.Totals.{costAmong, among-none, among-marked, among-unmarked, among-small, among-all}
 use Rattle.base.proofs.Integers.{read-back}
-use Rattle.rules.proofs.costs.kept_cost.Statement.{statement}
-use Rattle.rules.proofs.costs.kept_cost.Tie as tie
+use Rattle.costs.proofs.kept_cost.Statement.{statement}
+use Rattle.costs.proofs.kept_cost.Tie as tie
 
 abbrev Inv-loop : tie.InvT-loop
 Inv-loop network kept edges sum₀ e₀ sum e = (e ≤ edges) × (toZ w64 sum ≡ costAmong network (kept .marks) e)
