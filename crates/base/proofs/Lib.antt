@@ -11,3 +11,4 @@ pub mod LimitLaws
 pub mod Answers
 pub mod Numbered
 pub mod Exports
+pub mod Writing

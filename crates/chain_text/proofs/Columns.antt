@@ -18,7 +18,7 @@ use Rattle.frame.specs.Table.{STEP, DROPPED}
 use Rattle.frame.specs.Line.{lineOf}
 use Rattle.frame.specs.Kinds.{ofStep, ofDropped}
 use Rattle.frame.specs.declared.kinds.Step.{Step}
-use Rattle.frame.proofs.Writing.{Written}
+use Rattle.base.proofs.Writing.{Written}
 use Rattle.chain_text.specs.Text.{chainText, chainLength, evenly, stepsOf, writeChain}
 use Rattle.chain_text.specs.Columns.{stepAt}
 use Rattle.chain_text.proofs.Lengths.{length-chain}

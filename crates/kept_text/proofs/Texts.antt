@@ -25,7 +25,7 @@ use Rattle.frame.specs.Kinds.{ofCosts, keptDigits, unreservedDigits}
 use Rattle.frame.specs.declared.kinds.Costs.{Costs}
 use Rattle.frame.proofs.Lines.{length-line, fields-found}
 use Rattle.frame.proofs.Named.{costs-found}
-use Rattle.frame.proofs.Writing.{Written, written-last, written-front}
+use Rattle.base.proofs.Writing.{Written, written-last, written-front}
 use Rattle.list_text.specs.Text.{frameOf, risingFrom, listIn, readList, listText, writeList}
 use Rattle.kept_text.specs.Text.{isKept, keptEdges, keptText, costsIn, keptLength, ListsKept}
 use Rattle.list_text.proofs.OneToOne.{one-to-one}
@@ -120,7 +120,7 @@ pub costs-left : (es : List ℕ) (kept unreserved : ℤ) (old out : List ℕ) (a
 unfolding keptText
 costs-left es kept unreserved old out at n e h =
     let costs = ofCosts (record { kept = kept; unreserved = unreserved }) in
-    written-last (keptText es kept unreserved) old out at COSTS costs
+    written-last (keptText es kept unreserved) (lineOf COSTS costs) old out at
     (written-front (listText es) (lineOf COSTS costs) old out at n e h)
 
 -- the costs are found again in the last line, where they have room in their fields

@@ -16,7 +16,8 @@ use Rattle.frame.specs.Table.{KEPT, lineLength}
 use Rattle.frame.specs.Line.{lineOf}
 use Rattle.frame.specs.Frames.{listed, linesOf}
 use Rattle.frame.proofs.Whole.{length-lines, text-replicate}
-use Rattle.frame.proofs.Writing.{Written, few-lines}
+use Rattle.base.proofs.Writing.{Written}
+use Rattle.frame.proofs.Writing.{few-lines}
 use Rattle.list_text.specs.Text.{Meaning, frameOf, listIn, listText, writeList}
 use Rattle.list_text.proofs.Listed.{few-edges, same-edges}
 

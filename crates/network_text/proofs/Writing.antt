@@ -19,7 +19,8 @@ use Rattle.frame.specs.declared.line.Fields.{Fields}
 use Rattle.frame.specs.declared.kinds.Edge.{Edge}
 use Rattle.frame.proofs.Lines.{length-line}
 use Rattle.frame.proofs.Whole.{length-lines, text-replicate}
-use Rattle.frame.proofs.Writing.{Written, written-none, written-all, written-size, line-within, line-room, line-more}
+use Rattle.base.proofs.Writing.{Written, written-none, written-all, written-size}
+use Rattle.frame.proofs.Writing.{line-within, line-room, line-more}
 use Rattle.network_text.specs.Text.{edgesIn, edgesText, networkText}
 use Rattle.network_text.specs.Columns.{edgeAt, Edged}
 

@@ -12,7 +12,7 @@ ghost use Rattle.base.specs.Answer.{over};
 ghost use Rattle.base.specs.Limits.{edgeLimit};
 ghost use Rattle.kept_text.specs.Text.{keptEdges};
 ghost use Rattle.page.specs.Page.{lineOf, edgeLines, sumLine, pageLength};
-ghost use Rattle.page.specs.Room.{LineRoom, SumRoom, LinesRoom};
+ghost use Rattle.page.specs.Room.{ColumnRoom, column, LineRoom, SumRoom, LinesRoom};
 
 // Where the columns end: an edge's number, its lower end, its higher end, its cost.
 const NUMBER_END: usize = 6;
@@ -34,16 +34,24 @@ pub fn page_length(listed: &[bool], edges: usize) -> usize
     (count_kept(listed, edges) + 1) * PAGE_LINE
 }
 
+// Prints a number in the column of `line` from one place to another.
+fn put_column(line: &mut [u8], start: usize, end: usize, number: i64)
+    requires { ⌜ ColumnRoom (now line) start end number ⌝ }
+    ensures { λ r. ⌜ now (line .exit) ≡ column start end number (now (line .entry)) ⌝ }
+{
+    put_aligned(&mut line[start..end], number);
+}
+
 // Writes the line of an edge to the start of `line`, and answers its length.
 fn put_edge(line: &mut [u8], edge: usize, low: u8, high: u8, cost: i64) -> usize
     requires { ⌜ LineRoom (now line) edge cost ⌝ }
     ensures { λ r. ⌜ (r ≡ length (lineOf edge low high cost)) ×
         (now (line .exit) ≡ over (lineOf edge low high cost) (now (line .entry))) ⌝ }
 {
-    put_aligned(&mut line[..NUMBER_END], edge as i64);
-    put_aligned(&mut line[NUMBER_END..LOWER_END], low as i64);
-    put_aligned(&mut line[LOWER_END..HIGHER_END], high as i64);
-    put_aligned(&mut line[HIGHER_END..COST_END], cost);
+    put_column(line, 0, NUMBER_END, edge as i64);
+    put_column(line, NUMBER_END, LOWER_END, low as i64);
+    put_column(line, LOWER_END, HIGHER_END, high as i64);
+    put_column(line, HIGHER_END, COST_END, cost);
     line[COST_END] = LINE_FEED;
     PAGE_LINE
 }
@@ -54,7 +62,7 @@ pub fn put_sum(line: &mut [u8], sum: i64)
     ensures { λ r. ⌜ now (line .exit) ≡ over (sumLine sum) (now (line .entry)) ⌝ }
 {
     put_spaces(&mut line[..HIGHER_END]);
-    put_aligned(&mut line[HIGHER_END..COST_END], sum);
+    put_column(line, HIGHER_END, COST_END, sum);
     line[COST_END] = LINE_FEED;
 }
 

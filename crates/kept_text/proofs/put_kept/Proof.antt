@@ -11,7 +11,8 @@ use Rattle.base.specs.Fold.{pick}
 use Rattle.frame.specs.Table.{KEPT}
 use Rattle.frame.specs.Line.{lineOf}
 use Rattle.frame.specs.Frames.{linesOf}
-use Rattle.frame.proofs.Writing.{Written, written-none, written-all, written-size, line-within, line-room, line-more}
+use Rattle.base.proofs.Writing.{Written, written-none, written-all, written-size}
+use Rattle.frame.proofs.Writing.{line-within, line-room, line-more}
 use Rattle.list_text.specs.Text.{frameOf, listText}
 use Rattle.kept_text.specs.Text.{isKept, keptEdges}
 use Rattle.base.proofs.Picks.{pick-start, pick-other, pick-end}

@@ -10,7 +10,8 @@ use Rattle.frame.specs.Line.{lineOf}
 use Rattle.frame.specs.Kinds.{ofCosts}
 use Rattle.list_text.specs.Text.{listText}
 use Rattle.kept_text.specs.Text.{keptEdges, keptText}
-use Rattle.frame.proofs.Writing.{Written, written-all, written-size, line-room, line-more}
+use Rattle.base.proofs.Writing.{Written, written-all, written-size}
+use Rattle.frame.proofs.Writing.{line-room, line-more}
 use Rattle.kept_text.proofs.Texts.{costs-left}
 use borrow.Author.Needs.{needs}
 use Rattle.kept_text.proofs.put_text.Statement.{statement}

@@ -10,7 +10,8 @@ use Rattle.base.proofs.Parts.{length-over}
 use Rattle.frame.specs.Table.{STEP, DROPPED}
 use Rattle.frame.specs.Line.{lineOf}
 use Rattle.frame.specs.Kinds.{ofStep, ofDropped}
-use Rattle.frame.proofs.Writing.{Written, written-none, written-all, written-size, line-within, line-room, line-more}
+use Rattle.base.proofs.Writing.{Written, written-none, written-all, written-size}
+use Rattle.frame.proofs.Writing.{line-within, line-room, line-more}
 use Rattle.chain_text.specs.Text.{chainText, stepsOf}
 use Rattle.chain_text.proofs.Columns.{textFrom, step-left, ending-left}
 use Rattle.chain_text.proofs.chain.put_chain.Statement.{statement}

@@ -8,7 +8,8 @@ use lib.ListN.{length, drop, getD}
 use borrow.Author.Needs.{needs}
 use Rattle.frame.specs.Table.{KEPT}
 use Rattle.frame.specs.Line.{lineOf}
-use Rattle.frame.proofs.Writing.{Written, written-none, written-all, written-size, line-within, line-room, line-more}
+use Rattle.base.proofs.Writing.{Written, written-none, written-all, written-size}
+use Rattle.frame.proofs.Writing.{line-within, line-room, line-more}
 use Rattle.list_text.specs.Text.{frameOf, listText}
 use Rattle.list_text.proofs.Texts.{edge-left, text-end}
 use Rattle.list_text.proofs.list.put_list.Statement.{statement}

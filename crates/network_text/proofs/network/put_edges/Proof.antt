@@ -6,7 +6,7 @@ use lib.Dec.{lit<}
 use lib.ListN.{length, drop}
 use borrow.Author.Needs.{needs}
 use Rattle.frame.specs.Kinds.{ofEdge}
-use Rattle.frame.proofs.Writing.{Written, written-size}
+use Rattle.base.proofs.Writing.{Written, written-size}
 use Rattle.network_text.specs.Text.{edgesIn, edgesText}
 use Rattle.network_text.specs.Columns.{edgeAt}
 use Rattle.network_text.proofs.CostField.{cost-spelt}
