@@ -170,6 +170,25 @@ pub rising-below : (least bound : ℕ) (is : List ℕ) → Rising least bound is
 rising-below least bound [] r = tt
 rising-below least bound (i ∷ is) r = (r .1, rising-below (suc i) bound is (r .2))
 
+rising-from : (k bound : ℕ) (is : List ℕ) → Rising (suc k) bound is → Rising k bound is
+rising-from k bound [] r = tt
+rising-from k bound (i ∷ is) r = (omega arith, r .1, r .2)
+
+-- picked numbers rise
+pub pick-rises : (n k : ℕ) (p : ℕ → Bool) → Rising k (k + n) (pick n k p)
+unfolding pick
+pick-rises zero k p = tt
+pick-rises (suc n) k p =
+    let e : k + suc n ≡ suc k + n = omega arith in
+    rw e (go (p k) (pick-rises n (suc k) p))
+  where
+    later : List ℕ
+    later = pick n (suc k) p
+
+    go : (t : Bool) → Rising (suc k) (suc k + n) later → Rising k (suc k + n) (cond t (k ∷ later) later)
+    go true r = (omega arith, omega arith, r)
+    go false r = rising-from k (suc k + n) later r
+
 -- a number before the least one stands nowhere among them
 rising-absent : (least bound : ℕ) (is : List ℕ) → Rising least bound is → (k : ℕ) → k < least → among k is ≡ false
 unfolding among

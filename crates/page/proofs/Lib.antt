@@ -1,1 +1,4 @@
 pub mod Printing
+pub mod Pages
+pub mod Answering
+pub mod Bound

@@ -134,7 +134,7 @@ module _ (old : List ℕ) (h : pageLine ≤ length old) where
         let start : spaces ++ drop 18 old ≡ over front old = begun spaces e in
         let cost = next-column 18 36 sum front old _ n (omega arith) (omega arith) fit start in
         let m : length (front ++ aligned costWidth sum) ≡ 36 =
-        length-append front _ ∙ omega (arith, n, right-aligned .width costWidth sum fit) in
+        length-append front (aligned costWidth sum) ∙ omega (arith, n, right-aligned .width costWidth sum fit) in
         ap (λ out. set out 36 FEED) cost ∙ over-set (front ++ aligned costWidth sum) old 36 FEED (sym m) (omega arith)
       where
         begun : (spaces : List ℕ) → spaces ≡ replicate (length (take 18 old)) space

@@ -1,25 +1,32 @@
+-- `page::lines::page_length` meets its contract.
+use mathlib.Core.Path.{_∙_, ap}
+use Prim.Native.Nat.{_≤_, _*_}
+use native.Mathlib.Omega.{arith}
 use borrow.Author.Needs.{needs}
+use Rattle.base.specs.Limits.{edgeLimit}
+use Rattle.kept_text.proofs.Texts.{few-kept}
+use Rattle.page.specs.Page.{pageLength}
 use Rattle.page.proofs.lines.page_length.Statement.{statement}
 use Rattle.page.proofs.lines.page_length.Tie as tie
-use Rattle.page.proofs.lines.page_length.Reads as reads
-use Rattle.page.proofs.lines.page_length.Lts as lts
-use Rattle.kept_text.proofs.count_kept.Reads as count-kept-reads
 
--- src/lines.rt:34:6
+-- no more edges are listed than a network may have
+few : (c : tie.After-count-kept) → c .count-kept .result ≤ edgeLimit
+few c =
+    let s = c .before .before in
+    omega (arith, c .count-kept .ensures, few-kept (s .args .edges) (s .args .listed .now), s .pre .1)
+
 count-kept-requires : tie.Need-count-kept-requires
 count-kept-requires c κs = search needs
 
--- src/lines.rt:34:6
 add-result : tie.Need-add-result
-add-result c = ?
+add-result c = omega (arith, few c)
 
--- src/lines.rt:34:5
 mul-result : tie.Need-mul-result
-mul-result c = ?
+mul-result c = omega (arith, few c)
 
--- src/lines.rt:30:1
 returns : tie.Need-returns
-returns c = ?
+unfolding pageLength
+returns c = rw (c .count-kept .ensures) (omega arith)
 
 pub page-length-spec : {M : Type 1} → statement M
 page-length-spec = tie.close (tie.spec count-kept-requires add-result mul-result returns)

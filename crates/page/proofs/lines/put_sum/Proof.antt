@@ -1,38 +1,47 @@
+-- `page::lines::put_sum` meets its contract.
+use mathlib.Core.Path.{_∙_, sym}
+use native.Mathlib.Omega.{arith}
+use lib.ListN.{length-set}
+use lib.Seq.{length-front, length-take-le}
+use mir.Facts.{toZ-ofZ}
 use borrow.Author.Needs.{needs}
+use Rattle.page.proofs.Printing.{sum-line}
 use Rattle.page.proofs.lines.put_sum.Statement.{statement}
 use Rattle.page.proofs.lines.put_sum.Tie as tie
-use Rattle.page.proofs.lines.put_sum.Reads as reads
-use Rattle.page.proofs.lines.put_sum.Lts as lts
-use Rattle.decimal.proofs.put_spaces.Reads as put-spaces-reads
-use Rattle.page.proofs.lines.put_column.Reads as put-column-reads
 
--- src/lines.rt:64:16
 slice-relend-prefix-put-spaces : tie.Need-slice-relend-prefix-put-spaces
 slice-relend-prefix-put-spaces c = search needs
 
--- src/lines.rt:64:16
 slice-aggregate-put-spaces : tie.Need-slice-aggregate-put-spaces
-slice-aggregate-put-spaces c = ?
+slice-aggregate-put-spaces c =
+    let s = c .before .before in
+    sym (length-take-le 18 (s .args .line .now) (omega (arith, s .pre .long)))
 
--- src/lines.rt:64:5
 put-spaces-requires : tie.Need-put-spaces-requires
 put-spaces-requires c κs = search needs
 
--- src/lines.rt:65:5
 put-column-requires : tie.Need-put-column-requires
 put-column-requires c κs = search needs
 
--- src/lines.rt:66:5
 slice-write-line : tie.Need-slice-write-line
 slice-write-line c = search needs
 
--- src/lines.rt:60:1
 same-length : tie.Need-same-length
-same-length c = ?
+same-length c =
+    let q = c .before .before in
+    let p = q .before .before .before .before in
+    let line = p .before .before .before .args .line .now in
+    length-set (q .put-column .last .0) 36 _ ∙ q .put-column .kept .0
+    ∙ length-front line (p .put-spaces .last .0) 18 (p .put-spaces .kept .0)
 
--- src/lines.rt:60:1
 returns : tie.Need-returns
-returns c = ?
+returns c =
+    let q = c .before .before in
+    let p = q .before .before .before .before in
+    let s = p .before .before .before in
+    let sum = s .args .sum in
+    rw (rw (toZ-ofZ (s .fits .sum)) at (q .put-column .ensures))
+    (sum-line (s .args .line .now) (s .pre .long) sum (s .pre .fitting) _ (p .put-spaces .ensures))
 
 pub put-sum-spec : {M : Type 1} → statement M
 put-sum-spec =
