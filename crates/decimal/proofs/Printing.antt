@@ -1,12 +1,12 @@
 -- Numbers printed at every width: which of them fit, what is read again, and what the code that prints them needs.
 use mathlib.Core.Path.{_≡_, refl, sym, _∙_, ap}
-use mathlib.Core.Bool.{Bool, true, false, cond, _&&_}
+use mathlib.Core.Bool.{Bool, true, false, _&&_}
 use mathlib.Core.List.{List, [], _∷_, _++_}
 use mathlib.Core.Logic.{_≢_}
-use Prim.Native.Nat.{ℕ, zero, suc, _+_, _*_, _-_, _^_, _≤_, _<_}
+use Prim.Native.Nat.{ℕ, zero, suc, _+_, _-_, _^_, _≤_, _<_}
 use native.Mathlib.Omega.{arith}
 use native.Mathlib.Decide.{decLt}
-use lib.Dec.{leb, leb·suc-suc, ltb, eqb}
+use lib.Dec.{leb, leb·suc-suc, ltb}
 use lib.ListN.{length, take, drop, getD, set, replicate, length-append, length-replicate, length-set}
 use lib.Seq.{drop-at, drop-cons, drop-set-lt, getD-set-same, length-take-le}
 use lib.IntN.{ℤ, pos, negsuc, negℤ, natAbs}

@@ -1,14 +1,14 @@
 -- What is owed of pages.
 use mathlib.Core.Path.{_≡_, refl, sym, _∙_, ap}
 use mathlib.Core.Bool.{Bool, true, false, _&&_, and-false}
-use mathlib.Core.List.{List, [], _∷_, _++_, append-assoc, append-nil}
-use Prim.Native.Nat.{ℕ, zero, suc, _+_, _*_, _-_, _/_, _^_, _≤_, _<_}
+use mathlib.Core.List.{List, [], _∷_, _++_, append-assoc}
+use Prim.Native.Nat.{ℕ, zero, suc, _+_, _*_, _-_, _^_, _≤_, _<_}
 use native.Mathlib.Omega.{arith}
 use native.Mathlib.Nat.{add-zero}
 use native.Mathlib.Decide.{decLt}
 use lib.Dec.{leb}
-use lib.ListN.{length, take, drop, getD, replicate, length-replicate}
-use lib.Seq.{drop-append-add, drop-drop, take-append-le, take-at, drop-at, drop-append-le, ext-getD}
+use lib.ListN.{length, take, drop, replicate, length-replicate}
+use lib.Seq.{drop-drop, take-at, drop-at, ext-getD}
 use lib.IntN.{ℤ, pos, negsuc, negℤ, natAbs, _+ℤ_}
 use borrow.Author.Tests.{le-leb, le-ltb, lt-leb}
 use Rattle.base.specs.Answer.{Answer, refused, answer, andThen, refusalOf}

@@ -1,24 +1,22 @@
 -- The lines of a page: how long they are, and the columns that are printed one after the other.
 use mathlib.Core.Path.{_≡_, refl, sym, _∙_, ap}
-use mathlib.Core.Bool.{Bool, true, false, _&&_}
-use mathlib.Core.List.{List, [], _∷_, _++_, append-assoc, append-nil}
-use Prim.Native.Nat.{ℕ, zero, suc, _+_, _*_, _-_, _^_, _≤_, _<_}
+use mathlib.Core.Bool.{true, _&&_}
+use mathlib.Core.List.{List, [], _∷_, _++_, append-assoc}
+use Prim.Native.Nat.{ℕ, _+_, _*_, _-_, _^_, _≤_, _<_}
 use native.Mathlib.Omega.{arith}
-use lib.Dec.{lit<}
 use lib.ListN.{length, take, drop, set, replicate, length-append, length-drop, length-replicate}
 use lib.Seq.{drop-at, drop-drop, length-take-le, take-at}
 use borrow.Rule.Slice.PartMut.{putMid}
 use lib.IntN.{ℤ, pos, negsuc, natAbs}
 use borrow.Author.Tests.{lt-ltb}
 use Rattle.base.specs.Answer.{over}
-use Rattle.base.specs.Limits.{edgeLimit, costLimit}
-use Rattle.base.specs.Words.{AllBelow}
+use Rattle.base.specs.Limits.{edgeLimit}
 use Rattle.base.proofs.Filling.{over-set}
 use Rattle.decimal.specs.BaseTen.{space, aligned, fits}
 use Rattle.decimal.proofs.Printing.{right-aligned}
 use Rattle.frame.specs.Line.{FEED}
 use Rattle.page.specs.Page.{numberWidth, costWidth, costPlace, pageLine, lineOf, sumLine, costBorne}
-use Rattle.page.specs.Room.{LineRoom, SumRoom, column}
+use Rattle.page.specs.Room.{column}
 
 -- ── which numbers have room in the columns ──
 

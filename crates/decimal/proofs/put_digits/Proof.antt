@@ -1,6 +1,6 @@
 -- `decimal::put_digits` meets its contract. The loop's invariant is `Written`.
 use native.Mathlib.Omega.{arith}
-use lib.ListN.{length, length-set}
+use lib.ListN.{length-set}
 use mathlib.Core.List.{[]}
 use borrow.Author.Needs.{needs}
 use Rattle.decimal.specs.BaseTen.{digits}
