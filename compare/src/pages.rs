@@ -1,7 +1,7 @@
 //! Pages: what is printed of lists, and what is refused before anything is.
 
 use second::generate::{self, CostStyle, ListStyle, NetworkAim, PrintedCosts, Rng, Shapeless};
-use second::lengths::{self, LONGEST_PAGE};
+use second::lengths;
 use second::page::LINE_LENGTH;
 use second::properties::judge_page;
 use second::refusal::NOT_FOUR_REGULAR;
@@ -173,16 +173,16 @@ pub fn print_list(rng: &mut Rng, network: &Network, edges: &[u16]) -> Compared {
 /// The page of a list over a network, whatever both are, with buffers of every length.
 pub fn print(rng: &mut Rng, network: &[u8], list: &[u8]) -> Compared {
     let due = second::print_page(network, list);
-    for length in page_lengths(rng, due.as_deref().ok()) {
+    for length in page_lengths(rng, list, due.as_deref().ok()) {
         print_into(rng, network, list, &due, length)?;
     }
     Ok(())
 }
 
-/// Lengths to lend the buffer of a page with: exact, a byte short, without the last line, empty,
-/// anything shorter, a little longer, and enough for every page. After a refusal the page that
-/// would be due doesn't matter.
-pub fn page_lengths(rng: &mut Rng, page: Option<&[u8]>) -> [usize; 7] {
+/// Lengths to lend the buffer of a list's page with: exact, a byte short, without the last line,
+/// empty, anything shorter, a little longer, and more than any list of so many bytes prints. After
+/// a refusal the page that would be due may have any length.
+pub fn page_lengths(rng: &mut Rng, list: &[u8], page: Option<&[u8]>) -> [usize; 7] {
     let due = due_length(rng, page).max(lengths::page(0));
     [
         due,
@@ -190,9 +190,14 @@ pub fn page_lengths(rng: &mut Rng, page: Option<&[u8]>) -> [usize; 7] {
         due - LINE_LENGTH,
         0,
         rng.below(due),
-        due + rng.between(1, 2 * LINE_LENGTH),
-        LONGEST_PAGE,
+        due + rng.between(1, LINE_LENGTH),
+        longer(list),
     ]
+}
+
+/// More bytes than any list of so many bytes prints.
+pub fn longer(list: &[u8]) -> usize {
+    lengths::page(list.len() / lengths::list_text(1) + 1)
 }
 
 /// The page with a buffer of this length, where this page or this refusal is due.

@@ -117,7 +117,7 @@ mod tests {
 
     use second::audit::audit_list;
     use second::generate;
-    use second::lengths::{fits, LONGEST_PAGE};
+    use second::lengths::fits;
     use second::texts::COST_LIMIT;
 
     use super::*;
@@ -197,9 +197,10 @@ mod tests {
                 let of_network = second::check_network(&case.network).err();
                 pairs.insert((of_network.unwrap_or(0), case.of_list.unwrap_or(0)));
                 let page = second::print_page(&case.network, &case.list);
-                let lengths = pages::page_lengths(&mut rng, page.as_deref().ok());
-                // Too short for any page, and long enough for every one.
-                assert!(lengths.contains(&0) && lengths.contains(&LONGEST_PAGE));
+                let due = page.as_deref().ok();
+                let lengths = pages::page_lengths(&mut rng, &case.list, due);
+                // Too short for any page, and long enough for every one that a list might get.
+                assert!(lengths.contains(&0) && lengths.contains(&pages::longer(&case.list)));
                 for length in lengths {
                     let due = page.as_ref().map_err(|&refusal| refusal);
                     let answer = due.and_then(|page| fits(page.len(), length));
