@@ -23,8 +23,8 @@
 #define GUARD ((size_t)4096)
 #define PAINT 0xa5
 
-/* What the services are given: a network text, the planner's chain, the list of all edges, and a table of the network
- * with room for the end of a string. */
+/* What the services are given: a network text, the planner's chain, the list of all edges, room for its page, and a
+ * table of the network with room for the end of a string. */
 struct texts {
     uint8_t network[THINNING_NETWORK_TEXT];
     size_t network_length;
@@ -34,6 +34,8 @@ struct texts {
     size_t kept_length;
     uint8_t list[THINNING_LIST_TEXT];
     size_t list_length;
+    uint8_t page[THINNING_PAGE_TEXT];
+    size_t page_length;
     uint8_t table[THINNING_TABLE_TEXT + 1];
     size_t table_length;
 };
@@ -76,6 +78,12 @@ static uint32_t audit(struct texts *t)
     return thinning_audit(t->network, t->network_length, t->list, t->list_length, &connected, &reached, &critical);
 }
 
+static uint32_t print_page(struct texts *t)
+{
+    return thinning_print_page(t->network, t->network_length, t->list, t->list_length, t->page, sizeof t->page,
+                               &t->page_length);
+}
+
 static uint32_t plan_table(struct texts *t)
 {
     return thinning_plan_table(t->table, t->table_length, t->chain, sizeof t->chain, t->kept, sizeof t->kept,
@@ -87,7 +95,7 @@ static const struct {
     const char *name;
     uint32_t (*call)(struct texts *);
 } services[] = {{"check", check_network}, {"plan", plan}, {"chain check", check_chain}, {"audit", audit},
-                {"table plan", plan_table}};
+                {"page", print_page}, {"table plan", plan_table}};
 #define SERVICES (sizeof services / sizeof *services)
 
 /* A service on its way through a thread: where the thread's own frame is, and what the service answers. */

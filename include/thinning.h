@@ -58,6 +58,7 @@ extern "C" {
 #define THINNING_CHAIN_TEXT 3817
 #define THINNING_KEPT_TEXT 3612
 #define THINNING_LIST_TEXT 3584
+#define THINNING_PAGE_TEXT 18981
 #define THINNING_TABLE_TEXT 10767
 
 /* Checks a network text. Refusals: 1 to 5, whichever comes first in the text, then 6, then 7. */
@@ -87,6 +88,19 @@ uint32_t thinning_check_chain(const uint8_t *network, size_t network_len,
  * Refusals: 1 to 5 of the network, whichever comes first in the text, then 1 and 14 of the list. */
 uint32_t thinning_audit(const uint8_t *network, size_t network_len, const uint8_t *list, size_t list_len,
                         bool *connected, size_t *reached, size_t *critical);
+
+/* Prints a list over a network text, which must read but need not be accepted: writes the page, and its length in
+ * bytes. A line of the page is 36 characters and a line feed. For each listed edge, in the order of the list, there is
+ * a line with the edge in 6 characters, its lower end in 6, its higher end in 6 and its cost in 18; the last line has
+ * 18 spaces and the sum of the listed costs in 18. A number is right-aligned behind spaces, in base ten without leading
+ * zeros, with a minus directly before its first digit if it is below zero. The page of an empty list is one line, whose
+ * sum is 0.
+ * Refusals: 1 to 5 of the network, whichever comes first in the text, then 1 and 14 of the list, whichever comes first
+ * in it, then 13. Degrees and cuts are not looked at.
+ * Room for every list: page 18981 bytes; for one of k edges 37 * (k + 1). */
+uint32_t thinning_print_page(const uint8_t *network, size_t network_len, const uint8_t *list, size_t list_len,
+                             uint8_t *page, size_t page_len,
+                             size_t *written);
 
 /* Checks a table text. Refusals: 1 to 5, 15 and 16 for the number of spans, whichever comes first in the text, then 16
  * for the total of the weights, then 6 and 7 of the network that the table stands for. */

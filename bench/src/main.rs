@@ -1,14 +1,17 @@
 //! Prints how long the linked services and the second program take for the same inputs.
 //!
-//! `cargo run --release --offline` prints two tables and three lines about reading. The first table has the services
-//! that look at cuts: the core, the second program by the same method (`EveryFlow`: flows from one vertex to every
-//! other one) and by its faster one (`ContractedFlow`: one flow for a splitting). The second table has the audit of all
-//! edges, of half of them, which leave islands, and of none: both programs read the network and the list, and then make
-//! one depth-first search with low points, which is linear in the vertices and the listed edges.
+//! `cargo run --release --offline` prints two tables, three lines about reading and two about printing. The first table
+//! has the services that look at cuts: the core, the second program by the same method (`EveryFlow`: flows from one
+//! vertex to every other one) and by its faster one (`ContractedFlow`: one flow for a splitting). The second table has
+//! the audit of all edges, of half of them, which leave islands, and of none: both programs read the network and the
+//! list, and then make one depth-first search with low points, which is linear in the vertices and the listed edges.
 //!
 //! The lines about reading have the longest texts: a network's columns, a network with its degrees, by a check that
 //! ends there, and a table. Beside the second program stands a reader of networks that is written for speed
 //! (`single_pass`).
+//!
+//! The lines about printing have the pages of all edges and of none of a network of 256 vertices. The second program
+//! prints by the standard library's format; beside it stands a printer that is written for speed (`single_page`).
 //!
 //! A ratio says how many times the other program's time the core takes. Each time is the shortest of some runs, in
 //! which the programs take turns, so that a busy moment of the machine doesn't fall on one of them alone; none is
@@ -19,15 +22,16 @@ use std::thread;
 use std::time::{Duration, Instant};
 
 use second::generate::{self, CostStyle, Family, ListStyle, Rng};
-use second::lengths::{LONGEST_NETWORK_TEXT, LONGEST_TABLE_TEXT};
+use second::lengths::{self, LONGEST_NETWORK_TEXT, LONGEST_PAGE, LONGEST_TABLE_TEXT};
 use second::refusal::{BROKEN_TEXT, NOT_FOUR_REGULAR};
 use second::texts::MOST_VERTICES;
 use second::{
-    audit, check_chain_by, check_network, check_network_by, plan_by, read_network, read_table,
-    write_list, Method, Network,
+    audit, check_chain_by, check_network, check_network_by, plan_by, print_page, read_network,
+    read_table, write_list, Method, Network,
 };
-use thinning::Refusal;
+use thinning::{raw, Refusal};
 
+mod single_page;
 mod single_pass;
 
 const SIZES: [usize; 4] = [32, 64, 128, MOST_VERTICES];
@@ -36,7 +40,7 @@ const SEED: u64 = 1;
 const RUNS: usize = 15;
 /// What takes a moment needs more runs to meet an undisturbed one.
 const SHORT_RUNS: usize = 2_000;
-/// What the lines about reading call the core's rivals.
+/// What the lines about reading and printing call the core's rivals.
 const SECOND: &str = "second";
 const SINGLE_PASS: &str = "single pass";
 /// Bytes of stack that are to be enough for 256 vertices; a deeper call would end the program.
@@ -52,6 +56,9 @@ fn main() {
     on_small_stack(reading_a_network);
     on_small_stack(reading_a_network_and_degrees);
     on_small_stack(reading_a_table);
+    println!();
+    on_small_stack(|| printing_a_page("all edges", 2 * MOST_VERTICES));
+    on_small_stack(|| printing_a_page("no edges", 0));
 }
 
 /// The two lines above a table: what a line is about, and what the second program does.
@@ -171,8 +178,8 @@ fn reading_a_network() {
     assert_eq!(text.len(), LONGEST_NETWORK_TEXT);
     let reserved = single_pass::load(&text).map(|loaded| loaded.reserved);
     assert_eq!(reserved, Ok(network.reserved));
-    reading(
-        "a network",
+    rivals(
+        "reading a network",
         text.len(),
         &[SECOND, SINGLE_PASS],
         [
@@ -196,8 +203,8 @@ fn reading_a_network_and_degrees() {
     assert_eq!(check_network(&text), Err(NOT_FOUR_REGULAR));
     let single_pass = single_pass::load_four_regular(&text).err();
     assert_eq!(single_pass, Some(NOT_FOUR_REGULAR));
-    reading(
-        "a network and its degrees",
+    rivals(
+        "reading a network and its degrees",
         text.len(),
         &[SECOND, SINGLE_PASS],
         [
@@ -218,8 +225,8 @@ fn reading_a_table() {
     text.push(b'0');
     assert_eq!(thinning::check_table(&text), Err(Refusal::Form));
     assert_eq!(read_table(&text), Err(BROKEN_TEXT));
-    reading(
-        "a table",
+    rivals(
+        "reading a table",
         text.len(),
         &[SECOND],
         [
@@ -229,12 +236,41 @@ fn reading_a_table() {
     );
 }
 
-/// Prints how long the core takes to read so many bytes, and how long each of its rivals does, with its ratio.
-fn reading<const N: usize>(text: &str, bytes: usize, rivals: &[&str], works: [Work; N]) {
+/// The page of so many edges of a network of 256 vertices. Each program reads both texts; the core and the printer that
+/// is written for speed are lent the page's buffer, and the second program makes its own.
+fn printing_a_page(edges: &str, size: usize) {
+    let network = network(Family::TwoCycles, MOST_VERTICES);
+    let text = &generate::text(&network);
+    let listed = generate::list_of(&mut Rng::new(SEED), &network, ListStyle::Size(size));
+    let list = &write_list(MOST_VERTICES, &listed).expect("the list rises");
+    let due = print_page(text, list).expect("both read");
+    let length = due.len();
+    assert_eq!(length, lengths::page(size));
+    let [mut core, mut single_pass] = [vec![0; LONGEST_PAGE], vec![0; LONGEST_PAGE]];
+    let mut written = 0;
+    assert_eq!(raw::print_page(text, list, &mut core, &mut written), 0);
+    assert_eq!(core[..written], due);
+    assert_eq!(single_page::print(text, list, &mut single_pass), Ok(length));
+    assert_eq!(single_pass, core);
+    rivals(
+        &format!("printing {edges}"),
+        length,
+        &[SECOND, SINGLE_PASS],
+        [
+            work(|| raw::print_page(text, list, &mut core, &mut written)),
+            work(|| print_page(text, list)),
+            work(|| single_page::print(text, list, &mut single_pass)),
+        ],
+    );
+}
+
+/// Prints how long the core takes to read or to print so many bytes, and how long each of its rivals does, with its
+/// ratio.
+fn rivals<const N: usize>(subject: &str, bytes: usize, rivals: &[&str], works: [Work; N]) {
     let times = shortest(SHORT_RUNS, works);
     let (&core, others) = times.split_first().expect("the core is timed");
     print!(
-        "reading {text}, {bytes} bytes: core {:.4} ms",
+        "{subject}, {bytes} bytes: core {:.4} ms",
         milliseconds(core)
     );
     for (name, &time) in rivals.iter().zip(others) {

@@ -9,13 +9,13 @@ use second::texts::{COST_LIMIT, FEWEST_VERTICES, MOST_VERTICES};
 
 const HEAD_LINE: usize = HEAD.line_length();
 const EDGE_LINE: usize = EDGE.line_length();
-const MOST_EDGES: usize = second::lengths::edge_column(MOST_VERTICES);
+pub const MOST_EDGES: usize = second::lengths::edge_column(MOST_VERTICES);
 /// The edges at each vertex of an accepted network.
 const DEGREE: u16 = 4;
 
 /// The digits of fields of one, two and four bytes.
-const ONE_BYTE: usize = 2;
-const TWO_BYTES: usize = 4;
+pub const ONE_BYTE: usize = 2;
+pub const TWO_BYTES: usize = 4;
 const FOUR_BYTES: usize = 8;
 
 /// What a character that is no digit counts as: a bit that no digit has.
@@ -36,11 +36,11 @@ const fn values() -> [u8; 256] {
 
 /// A network by columns, and how many edges each vertex has.
 pub struct Loaded {
-    vertices: usize,
+    pub vertices: usize,
     pub reserved: usize,
-    low: [u16; MOST_EDGES],
-    high: [u16; MOST_EDGES],
-    cost: [i64; MOST_EDGES],
+    pub low: [u16; MOST_EDGES],
+    pub high: [u16; MOST_EDGES],
+    pub cost: [i64; MOST_EDGES],
     degrees: [u16; MOST_VERTICES],
 }
 
@@ -125,7 +125,7 @@ impl Loaded {
 }
 
 /// The characters of a line, taken from its start on.
-struct Digits<'line, const LENGTH: usize> {
+pub struct Digits<'line, const LENGTH: usize> {
     line: &'line [u8; LENGTH],
     taken: usize,
     /// The bits of all that was taken, so that a character that is no digit is noticed once for a line.
@@ -134,7 +134,7 @@ struct Digits<'line, const LENGTH: usize> {
 
 impl<'line, const LENGTH: usize> Digits<'line, LENGTH> {
     #[inline(always)]
-    fn new(line: &'line [u8; LENGTH]) -> Self {
+    pub fn new(line: &'line [u8; LENGTH]) -> Self {
         Digits {
             line,
             taken: 0,
@@ -144,7 +144,7 @@ impl<'line, const LENGTH: usize> Digits<'line, LENGTH> {
 
     /// The number that the next digits stand for.
     #[inline(always)]
-    fn take(&mut self, count: usize) -> u32 {
+    pub fn take(&mut self, count: usize) -> u32 {
         let mut number = 0;
         for _ in 0..count {
             let value = VALUES[usize::from(self.line[self.taken])];
@@ -157,7 +157,7 @@ impl<'line, const LENGTH: usize> Digits<'line, LENGTH> {
 
     /// Whether all that was taken are digits, and only a line feed follows them.
     #[inline(always)]
-    fn end_the_line(&self) -> bool {
+    pub fn end_the_line(&self) -> bool {
         self.bits & NO_DIGIT == 0 && self.line[self.taken..] == *b"\n"
     }
 }

@@ -7,7 +7,7 @@ use second::{Chain, Step};
 
 use crate::buffers::due_length;
 use crate::difference::{Compared, Difference, Given, Text};
-use crate::{chains, lists, networks};
+use crate::{chains, lists, networks, pages};
 
 /// A text of a crowded network and the fault in it, with a chain and a list that have the
 /// right form: if the fault is missed, they don't give its refusal instead.
@@ -82,11 +82,12 @@ pub fn services(rng: &mut Rng, case: &Case) -> Compared {
     }
     let length = due_length::<u8>(rng, None);
     chains::check_into(rng, text, chain, &[], Some(refusal), length)?;
-    lists::audit(rng, text, list)
+    lists::audit(rng, text, list)?;
+    pages::print(rng, text, list)
 }
 
-/// The second program's services give the refusal of the fault; its audit doesn't look at
-/// degrees.
+/// The second program's services give the refusal of the fault; its audit and its page don't look
+/// at degrees.
 fn meets(case: &Case) -> Compared {
     let Case {
         fault,
@@ -101,6 +102,7 @@ fn meets(case: &Case) -> Compared {
         ("plan", due, second::plan(text).err()),
         ("chain check", due, second::check_chain(text, chain).err()),
         ("audit", read, second::audit(text, list).err()),
+        ("page", read, second::print_page(text, list).err()),
     ] {
         if answer != due {
             let given: &Given = &[("network", &Text(text))];

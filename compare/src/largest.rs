@@ -1,21 +1,21 @@
 //! The largest networks: 256 vertices, of every family, with a stack of 2 MB.
 //!
-//! All four services, and those on a table of each family and on one with the largest total, run
-//! on a thread with that stack, and the plan program runs as a process with it, each held to the
-//! second program. A call that goes deeper ends the program. Crowded networks, among them ones
+//! All services on networks, and those on a table of each family and on one with the largest total,
+//! run on a thread with that stack, and the plan program runs as a process with it, each held to
+//! the second program. A call that goes deeper ends the program. Crowded networks, among them ones
 //! whose edges all run between two vertices, come with every fault of their texts and with none.
 
 use std::fmt::Debug;
 use std::thread::{self, Scope, ScopedJoinHandle};
 
 use second::generate::{
-    self, aimed_chain, Aim, CostStyle, Crowd, Family, ListStyle, Rng, TableAim,
+    self, aimed_chain, Aim, CostStyle, Crowd, Family, ListStyle, PrintedCosts, Rng, TableAim,
 };
 use second::lengths::LONGEST_NETWORK_TEXT;
 use second::{read_kept, write_chain, Network, Plan, Table};
 
 use crate::difference::{Compared, Difference, Given, Text, Words};
-use crate::{chains, crowded, lists, networks, program, tables};
+use crate::{chains, crowded, lists, networks, pages, program, tables};
 
 const VERTICES: usize = 256;
 const SEED: u64 = 1;
@@ -139,6 +139,7 @@ fn compare_network(family: Family, short: Short, place: usize) -> (String, Compa
             table_services(&mut rng, &table)?;
             largest_total(&mut rng)?;
         }
+        printed(&mut rng, &case)?;
         program::plan_on_stack(&case.text, PROGRAM_STACK)
     });
     (name, compared)
@@ -181,7 +182,7 @@ fn not_meant(service: &'static str, meant: &str, given: &Given, answer: &dyn Deb
     Difference::new(service, fault, given, &Words(meant), answer)
 }
 
-/// The four services.
+/// Check, plan, chain checks and audits.
 fn services(rng: &mut Rng, case: &Case, place: usize) -> Compared {
     networks::check(&case.text)?;
     plans(rng, case)?;
@@ -290,6 +291,19 @@ fn audit(rng: &mut Rng, case: &Case, list: &[u16], joins: bool) -> Compared {
     let meant = format!("connected: {joins}");
     let given: &Given = &[("network", &Text(&case.text))];
     Err(not_meant("audit", &meant, given, &audit))
+}
+
+/// The pages of the kept edges, of none, and of all edges with costs of every sort.
+fn printed(rng: &mut Rng, case: &Case) -> Compared {
+    let kept = read_kept(&case.plan.kept).expect("it is a kept text").edges;
+    for list in [kept, Vec::new()] {
+        pages::print_list(rng, &case.network, &list)?;
+    }
+    for costs in PrintedCosts::ALL {
+        let (network, all) = pages::all_edges(rng, case.network.clone(), costs);
+        pages::print_list(rng, &network, &all)?;
+    }
+    Ok(())
 }
 
 /// Check, plan and network of a table, which is accepted.

@@ -21,6 +21,7 @@ mod difference;
 mod largest;
 mod lists;
 mod networks;
+mod pages;
 mod program;
 mod rounds;
 mod tables;

@@ -6,13 +6,13 @@ use std::panic::{self, AssertUnwindSafe};
 use second::generate::Rng;
 
 use crate::difference::{Compared, Difference, Words};
-use crate::{chains, crowded, lists, networks, program, tables, vectors};
+use crate::{chains, crowded, lists, networks, pages, program, tables, vectors};
 
 /// A part of a round and its name.
 type Part = (&'static str, fn(&mut Rng) -> Compared);
 
 /// New parts stand last, so that those before them keep their numbers.
-const PARTS: [Part; 15] = [
+const PARTS: [Part; 19] = [
     ("program", program::plan),
     ("network-texts", networks::texts),
     ("network-columns", networks::columns),
@@ -28,6 +28,10 @@ const PARTS: [Part; 15] = [
     ("table-vectors", vectors::tables),
     ("half-built-audits", lists::half_built_audits),
     ("crowded-networks", crowded::texts),
+    ("pages", pages::lists),
+    ("longest-pages", pages::longest),
+    ("page-refusals", pages::refusals),
+    ("page-vectors", vectors::pages),
 ];
 
 /// Runs all rounds, and says how many differences were met.
@@ -112,6 +116,9 @@ mod tests {
     use std::collections::BTreeSet;
 
     use second::audit::audit_list;
+    use second::generate;
+    use second::lengths::fits;
+    use second::texts::COST_LIMIT;
 
     use super::*;
 
@@ -171,5 +178,90 @@ mod tests {
                 assert_eq!(met, BTreeSet::from(CROWDED_ANSWERS));
             }
         }
+    }
+
+    /// What the check of a network that is printed answers, and what its list does.
+    const NETWORK_ANSWERS: [u8; 8] = [0, 1, 2, 3, 4, 5, 6, 7];
+    const LIST_ANSWERS: [u8; 3] = [0, 1, 14];
+    /// What a page answers.
+    const PAGE_ANSWERS: [u8; 8] = [0, 1, 2, 3, 4, 5, 13, 14];
+
+    #[test]
+    fn every_round_has_pages_of_every_answer() {
+        for (part, mut rng) in (1..=40).flat_map(parts) {
+            if part.0 != "page-refusals" {
+                continue;
+            }
+            let (mut pairs, mut answers) = (BTreeSet::new(), BTreeSet::new());
+            for case in pages::every_fault(&mut rng) {
+                let of_network = second::check_network(&case.network).err();
+                pairs.insert((of_network.unwrap_or(0), case.of_list.unwrap_or(0)));
+                let page = second::print_page(&case.network, &case.list);
+                let due = page.as_deref().ok();
+                let lengths = pages::page_lengths(&mut rng, &case.list, due);
+                // Too short for any page, and long enough for every one that a list might get.
+                assert!(lengths.contains(&0) && lengths.contains(&pages::longer(&case.list)));
+                for length in lengths {
+                    let due = page.as_ref().map_err(|&refusal| refusal);
+                    let answer = due.and_then(|page| fits(page.len(), length));
+                    answers.insert(answer.err().unwrap_or(0));
+                }
+            }
+            let with_every_list = |network| LIST_ANSWERS.map(|list| (network, list));
+            let every_pair = NETWORK_ANSWERS.into_iter().flat_map(with_every_list);
+            assert_eq!(pairs, every_pair.collect());
+            assert_eq!(answers, BTreeSet::from(PAGE_ANSWERS));
+        }
+    }
+
+    /// The signs of numbers with how many digits they have.
+    fn widths(numbers: &BTreeSet<i64>) -> BTreeSet<(bool, usize)> {
+        let width = |number: &i64| number.unsigned_abs().to_string().len();
+        let widths = numbers.iter().map(|number| (*number < 0, width(number)));
+        widths.collect()
+    }
+
+    /// One digit up to so many, on both sides of zero.
+    fn every_width(most: usize) -> BTreeSet<(bool, usize)> {
+        let widths = (1..=most).flat_map(|width| [(false, width), (true, width)]);
+        widths.collect()
+    }
+
+    /// Whether a list that is printed has no edges, and whether it has all of them.
+    const PRINTED: [(bool, bool); 3] = [(true, false), (false, false), (false, true)];
+
+    #[test]
+    fn few_rounds_have_pages_of_every_number_and_list() {
+        let (mut costs, mut sums) = (BTreeSet::new(), BTreeSet::new());
+        let mut lists = BTreeSet::new();
+        for (part, mut rng) in (1..=200).flat_map(parts) {
+            let printed = match part.0 {
+                "pages" => pages::printable(&mut rng).to_vec(),
+                "longest-pages" => {
+                    let (network, all) = pages::longest_list(&mut rng);
+                    vec![(network, vec![all])]
+                }
+                _ => continue,
+            };
+            for (network, printed) in printed {
+                let answer = second::check_network(&generate::text(&network));
+                for list in printed {
+                    let edges = list.iter().map(|&edge| network.edges[usize::from(edge)]);
+                    let listed: Vec<i64> = edges.map(|edge| edge.cost).collect();
+                    sums.insert(listed.iter().sum());
+                    costs.extend(listed);
+                    let (none, all) = (list.is_empty(), list.len() == network.edges.len());
+                    lists.insert((answer.err().unwrap_or(0), (none, all)));
+                }
+            }
+        }
+        assert_eq!(widths(&costs), every_width(10));
+        assert_eq!(widths(&sums), every_width(12));
+        let ends = |numbers: BTreeSet<i64>| [numbers.first().copied(), numbers.last().copied()];
+        assert_eq!(ends(costs), [-COST_LIMIT, COST_LIMIT].map(Some));
+        assert_eq!(ends(sums), [-512 * COST_LIMIT, 512 * COST_LIMIT].map(Some));
+        let every_list = |answer: u8| PRINTED.map(|sort| (answer, sort));
+        let every_list = [0, 6, 7].into_iter().flat_map(every_list);
+        assert_eq!(lists, every_list.collect());
     }
 }

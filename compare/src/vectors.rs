@@ -125,6 +125,24 @@ pub fn lists(rng: &mut Rng) -> Compared {
     same("list writer", shown, written, due)
 }
 
+/// Pages of lists, whole and with a fault aimed at, over an accepted network and over any text.
+pub fn pages(rng: &mut Rng) -> Compared {
+    let vertices = generate::size(rng);
+    let network = generate::network(rng, vertices);
+    let edges = generate::list(rng, &network);
+    let list = second::write_list(vertices, &edges).expect("the list rises");
+    let (aimed, _) = generate::aimed_list(rng, &network);
+    for text in [generate::text(&network), any_text(rng)] {
+        for list in [&list, &aimed] {
+            let shown: &Given = &[("network", &Text(&text)), ("list", &Text(list))];
+            let page = thinning::print_page(&text, list).map(Text);
+            let due = second::print_page(&text, list).map(Text);
+            same("page", shown, page, due)?;
+        }
+    }
+    Ok(())
+}
+
 /// Check, plan and network of tables.
 pub fn tables(rng: &mut Rng) -> Compared {
     for text in every_sort(rng)? {

@@ -1,4 +1,4 @@
-//! Pseudo-random networks, texts, chains, lists and tables to compare answers on.
+//! Pseudo-random networks, texts, chains, lists, tables and costs to print, to compare answers on.
 //!
 //! Everything follows from the seed of a [`Rng`].
 
@@ -9,6 +9,7 @@ mod damage;
 mod lists;
 mod meanings;
 mod networks;
+mod pages;
 mod rng;
 mod tables;
 
@@ -16,11 +17,12 @@ pub use chains::{aimed_chain, chain_by_rule, changed_chain, Aim, Aimed};
 pub use costs::CostStyle;
 pub use crowded::{crowded_network, faulty_text, Crowd, FrameFault, FEWEST_CROWDING};
 pub use damage::{damage, Damage};
-pub use lists::{aimed_list, list, list_of, ListStyle};
+pub use lists::{aimed_list, broken_list, list, list_of, ListStyle};
 pub use meanings::{chain_columns, list_meaning, network_columns, ChainColumns, NetworkColumns};
 pub use networks::{
-    aimed_network, dress, loose_network, network, network_of, size, text, Family, NetworkAim,
-    Shapeless,
+    aimed_network, broken_network, dress, loose_network, network, network_of, size, text, Family,
+    NetworkAim, Shapeless,
 };
+pub use pages::PrintedCosts;
 pub use rng::Rng;
 pub use tables::{aimed_table, loose_table, table, table_of, table_text, TableAim};

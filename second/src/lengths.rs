@@ -1,6 +1,7 @@
 //! How long texts and columns are, and when a buffer is too short for them.
 
 use crate::lines::{EDGE, ENDING, HEAD, LISTED, REFUSED, SPAN, STEP, SUMS, TABLE_HEAD};
+use crate::page::LINE_LENGTH;
 use crate::refusal::{Refusal, SHORT_BUFFER};
 use crate::texts::MOST_VERTICES;
 
@@ -22,6 +23,11 @@ pub const fn list_text(edges: usize) -> usize {
 /// Bytes of a kept text of so many edges.
 pub const fn kept_text(edges: usize) -> usize {
     edges * LISTED.line_length() + SUMS.line_length()
+}
+
+/// Bytes of the page of so many edges: a line for each, and one for the sum.
+pub const fn page(edges: usize) -> usize {
+    (edges + 1) * LINE_LENGTH
 }
 
 /// Bytes of a table text of so many spans.
@@ -50,6 +56,8 @@ pub const LONGEST_NETWORK_TEXT: usize = network_text(MOST_VERTICES);
 pub const LONGEST_CHAIN_TEXT: usize = chain_text(MOST_VERTICES);
 /// Bytes of the longest audit list.
 pub const LONGEST_LIST_TEXT: usize = list_text(edge_column(MOST_VERTICES));
+/// Bytes of the longest page.
+pub const LONGEST_PAGE: usize = page(edge_column(MOST_VERTICES));
 /// Bytes of the longest table text, whose spans stand for one edge each.
 pub const LONGEST_TABLE_TEXT: usize = table_text(edge_column(MOST_VERTICES));
 
@@ -71,8 +79,10 @@ mod tests {
         assert_eq!(LONGEST_NETWORK_TEXT, 11_787);
         assert_eq!(LONGEST_CHAIN_TEXT, 3_817);
         assert_eq!(LONGEST_LIST_TEXT, 3_584);
+        assert_eq!(LONGEST_PAGE, 18_981);
         assert_eq!(LONGEST_TABLE_TEXT, 10_767);
         assert_eq!(kept_text(0), 35);
+        assert_eq!(page(0), 37);
         assert_eq!(refusal_line(), 5);
     }
 

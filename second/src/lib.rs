@@ -25,6 +25,7 @@ pub mod generate;
 pub mod lengths;
 pub mod lines;
 pub mod network;
+pub mod page;
 pub mod properties;
 pub mod refusal;
 pub mod tables;
@@ -34,6 +35,7 @@ pub mod working;
 pub use audit::{audit, Audit};
 pub use chain::{check_chain_by, plan_by, Plan};
 pub use network::Method;
+pub use page::{print_page, read_page, Page};
 pub use refusal::Refusal;
 pub use tables::{
     check_table_by, plan_table_by, read_table, table_network, write_table, Span, Table,

@@ -1,9 +1,11 @@
-//! What holds of every kept text, checked without the chain it came from.
+//! What holds of every kept text, checked without the chain it came from, and of every page,
+//! checked without printing one.
 
 use crate::cuts::Multigraph;
 use crate::network::Method;
+use crate::page::{read_page, Page};
 use crate::tables::{read_table, table_network, Table};
-use crate::texts::{read_kept, read_network, Network};
+use crate::texts::{read_kept, read_list, read_network, Edge, Network};
 
 /// Says what is wrong with a kept text over an accepted network, if anything is.
 ///
@@ -67,6 +69,29 @@ pub fn within_four_thirds(table: &Table, kept_cost: i64) -> bool {
     table.spans.iter().any(|span| span.cost < 0) || 3 * kept_cost <= 2 * doubled
 }
 
+/// Says what is wrong with the page of a list over a network that reads, if anything is.
+///
+/// Looked at: the form of each line, the sum of the printed costs, and that the listed edges are
+/// printed with their own ends and costs, so that no other list prints alike.
+pub fn judge_page(network_text: &[u8], list_text: &[u8], page: &[u8]) -> Result<(), String> {
+    let network = read_network(network_text).map_err(|r| format!("network refused by {r}"))?;
+    let list = read_list(network.vertices, list_text);
+    let list = list.map_err(|r| format!("list refused by {r}"))?;
+    let Page { edges, sum } = read_page(page).ok_or("a line of another form")?;
+
+    let printed: i64 = edges.iter().map(|(_, edge)| edge.cost).sum();
+    if sum != printed {
+        return Err(format!("the sum of the printed costs is {printed}"));
+    }
+    let edge_of = |&number: &u16| (number, network.edges[usize::from(number)]);
+    let due: Vec<(u16, Edge)> = list.iter().map(edge_of).collect();
+    if edges == due {
+        Ok(())
+    } else {
+        Err("the printed edges aren't those of the list".to_owned())
+    }
+}
+
 /// Whether at least two of the given edges cross every cut: each cut is counted in small
 /// networks, flows serve in larger ones.
 pub fn every_cut_has_two(network: &Network, numbers: &[usize]) -> bool {
@@ -113,6 +138,26 @@ mod tests {
         assert!(judge_kept(TWO, b"").is_err());
         assert!(judge_kept(b"", b"").is_err());
     }
+
+    #[test]
+    fn each_fault_of_a_page_is_found() {
+        let line = "     1     0     1                -1\n";
+        let sum = "                                  -1\n";
+        let judge = |list: &[u8], lines: &[&str]| judge_page(TWO, list, lines.concat().as_bytes());
+        assert_eq!(judge(b"050001\n", &[line, sum]), Ok(()));
+        assert!(judge(b"050001\n", &[sum]).is_err());
+        assert!(judge(b"050001\n", &[line, line]).is_err());
+        assert!(judge(b"050002\n", &[line, sum]).is_err());
+        assert!(judge(b"", &[line, sum]).is_err());
+        assert!(judge(b"050001\n", &[line, &sum.replace('1', "2")]).is_err());
+        for (from, to) in [("0     1", "0     2"), ("     0", "     1"), ("-1", "-2")] {
+            let [line, sum] = [line, sum].map(|line| line.replacen(from, to, 1));
+            assert!(judge(b"050001\n", &[&line, &sum]).is_err());
+        }
+        assert!(judge_page(b"", b"", b"").is_err());
+        assert!(judge_page(TWO, b"0", b"").is_err());
+    }
+
     /// Two vertices and one span of weight 4, whose edges cost 3 each.
     const SPAN: &[u8] = b"08000200000001\n09000000010400000003\n";
 

@@ -16,6 +16,22 @@
 //! assert_eq!(thinning::check_chain(network, &plan.chain), Ok(plan.kept));
 //! ```
 //!
+//! A page has a line for each listed edge, here for two of that network's, and their sum on its last line.
+//!
+//! ```
+//! # let network = b"0100020000\n\
+//! #     0200000000000100000005\n\
+//! #     02000100000001ffffffff\n\
+//! #     0200020000000100000003\n\
+//! #     0200030000000100000003\n";
+//! let page = thinning::print_page(network, b"050001\n050002\n").unwrap();
+//! let page = String::from_utf8(page).unwrap();
+//! let lines: Vec<&str> = page.lines().collect();
+//! assert_eq!(lines[0], "     1     0     1                -1");
+//! assert_eq!(lines[1], "     2     0     1                 3");
+//! assert_eq!(lines[2], "                                   2");
+//! ```
+//!
 //! A table stands for a network, here by one span of doubled weight 4: four edges between two vertices, at cost 3 each.
 //!
 //! ```
@@ -39,7 +55,7 @@ pub use meanings::{
 };
 pub use refusal::Refusal;
 pub use tables::{check_table, plan_table, table_network};
-pub use texts::{audit, check_chain, check_network, plan, Audit, Plan};
+pub use texts::{audit, check_chain, check_network, plan, print_page, Audit, Plan};
 
 /// The most vertices of a network.
 pub const VERTICES: usize = 256;
@@ -55,5 +71,7 @@ pub const CHAIN_TEXT: usize = 3_817;
 pub const KEPT_TEXT: usize = 3_612;
 /// The most bytes of an audit list.
 pub const LIST_TEXT: usize = 3_584;
+/// The most bytes of a page.
+pub const PAGE_TEXT: usize = 18_981;
 /// The most bytes of a table text.
 pub const TABLE_TEXT: usize = 10_767;

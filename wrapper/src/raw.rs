@@ -39,6 +39,15 @@ mod declared {
             reached: *mut usize,
             critical: *mut usize,
         ) -> u32;
+        pub fn thinning_print_page(
+            network: *const u8,
+            network_len: usize,
+            list: *const u8,
+            list_len: usize,
+            page: *mut u8,
+            page_len: usize,
+            written: *mut usize,
+        ) -> u32;
         pub fn thinning_check_table(table: *const u8, table_len: usize) -> u32;
         pub fn thinning_plan_table(
             table: *const u8,
@@ -328,6 +337,23 @@ pub fn audit(
             connected,
             reached,
             critical,
+        )
+    }
+}
+
+/// Prints a list over a network text: the page and its length. A line has 37 bytes, one for each listed edge and a last
+/// one for the sum of their costs.
+pub fn print_page(network: &[u8], list: &[u8], page: &mut [u8], written: &mut usize) -> u32 {
+    // SAFETY: both texts are slices that are only read; the buffer and the number are lent to this call alone.
+    unsafe {
+        declared::thinning_print_page(
+            network.as_ptr(),
+            network.len(),
+            list.as_ptr(),
+            list.len(),
+            page.as_mut_ptr(),
+            page.len(),
+            written,
         )
     }
 }

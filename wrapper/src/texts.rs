@@ -1,6 +1,7 @@
 //! The services that take and give texts.
 
-use crate::{raw, Refusal, CHAIN_TEXT, KEPT_TEXT};
+use crate::meanings::written;
+use crate::{raw, Refusal, CHAIN_TEXT, KEPT_TEXT, PAGE_TEXT};
 
 /// What the planner writes.
 #[derive(Clone, Debug, PartialEq, Eq)]
@@ -76,4 +77,14 @@ pub fn audit(network: &[u8], list: &[u8]) -> Result<Audit, Refusal> {
         &mut answer.critical,
     ))?;
     Ok(answer)
+}
+
+/// Prints a list over a network text, which need not be accepted: refusals 1 to 5 and 14.
+///
+/// A line has the edge in 6 characters, its lower end in 6, its higher end in 6 and its cost in 18, the last line 18
+/// spaces and the sum of the listed costs in 18; numbers are right-aligned, in base ten.
+pub fn print_page(network: &[u8], list: &[u8]) -> Result<Vec<u8>, Refusal> {
+    written(PAGE_TEXT, |page, length| {
+        raw::print_page(network, list, page, length)
+    })
 }

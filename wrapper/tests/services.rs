@@ -94,6 +94,86 @@ fn an_audit_is_refused_by_name() {
 }
 
 #[test]
+fn a_list_of_the_printed_network_is_printed() {
+    let kept = [
+        "     1     0     1                 4\n",
+        "     2     0     2                 1\n",
+        "     5     1     2                 3\n",
+        "                                   8\n",
+    ]
+    .concat();
+    let reserved = [
+        "     0     0     1                 7\n",
+        "                                   7\n",
+    ]
+    .concat();
+    let empty = format!("{:>36}\n", 0);
+    let cases: [(&[u16], &str); 3] = [(&[1, 2, 5], &kept), (&[0], &reserved), (&[], &empty)];
+    for (edges, page) in cases {
+        let list = thinning::write_list(3, edges).expect("the list rises");
+        let printed = thinning::print_page(NETWORK, &list);
+        assert_eq!(printed.as_deref(), Ok(page.as_bytes()));
+    }
+}
+
+#[test]
+fn costs_below_zero_are_printed_with_a_minus() {
+    let network = changed("00000004", "c4653600");
+    let page = [
+        "     1     0     1       -1000000000\n",
+        "     5     1     2                 3\n",
+        "                          -999999997\n",
+    ]
+    .concat();
+    let printed = thinning::print_page(&network, b"050001\n050005\n");
+    assert_eq!(printed.as_deref(), Ok(page.as_bytes()));
+}
+
+#[test]
+fn a_page_is_refused_by_name() {
+    let cases = [
+        (changed("0100030000\n", "0100030000"), Refusal::Form),
+        (changed("0100030000", "0100010000"), Refusal::Vertices),
+        (changed("0100030000", "0100030006"), Refusal::Reserved),
+        (changed("020001", "020000"), Refusal::Edge),
+        (changed("00000007", "7fffffff"), Refusal::Cost),
+    ];
+    for (text, refusal) in cases {
+        assert_eq!(thinning::print_page(&text, b"050006\n"), Err(refusal));
+    }
+    let broken = b"050006";
+    assert_eq!(thinning::print_page(NETWORK, broken), Err(Refusal::Form));
+    let too_high = b"050006\n";
+    let refused = thinning::print_page(NETWORK, too_high);
+    assert_eq!(refused, Err(Refusal::Listed));
+    assert_eq!(raw::print_page(NETWORK, too_high, &mut [], &mut 0), 14);
+    // Degrees and cuts are not looked at.
+    let uneven = changed("02000100000001", "02000100000002");
+    assert!(thinning::print_page(&uneven, b"").is_ok());
+}
+
+#[test]
+fn a_page_has_37_bytes_for_each_line() {
+    let list = b"050001\n050005\n";
+    let due = thinning::print_page(NETWORK, list).expect("both read");
+    assert_eq!(due.len(), 3 * 37);
+    for length in [0, 2 * 37, 3 * 37 - 1] {
+        let mut page = vec![7; length];
+        let mut written = 5;
+        let answer = raw::print_page(NETWORK, list, &mut page, &mut written);
+        assert_eq!(answer, Refusal::ShortBuffer.number());
+        assert_eq!((page, written), (vec![7; length], 5));
+    }
+    for more in [0, 1, 40] {
+        let mut page = vec![7; due.len() + more];
+        let mut written = 5;
+        let answer = raw::print_page(NETWORK, list, &mut page, &mut written);
+        assert_eq!((answer, written), (0, due.len()));
+        assert_eq!(page, [&due[..], &vec![7; more]].concat());
+    }
+}
+
+#[test]
 fn readers_and_writers_are_inverse() {
     assert_eq!(thinning::read_network(NETWORK), Ok(meaning()));
     assert_eq!(thinning::write_network(&meaning()), Ok(NETWORK.to_vec()));

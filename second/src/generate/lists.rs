@@ -2,9 +2,10 @@
 
 use std::collections::BTreeMap;
 
+use super::damage::IN_NO_LINE;
 use super::{damage, Rng};
 use crate::lines::LISTED;
-use crate::refusal::{Refusal, BAD_LIST};
+use crate::refusal::{Refusal, BAD_LIST, BROKEN_TEXT};
 use crate::texts::Network;
 
 /// How a list is drawn.
@@ -202,6 +203,30 @@ pub fn aimed_list(rng: &mut Rng, network: &Network) -> (Vec<u8>, Refusal) {
         rest
     });
     (text, BAD_LIST)
+}
+
+/// A list text with a broken line, and the refusal due. The number on that line may be wrong as
+/// well, and what follows it begins the list anew.
+pub fn broken_list(rng: &mut Rng, network: &Network) -> (Vec<u8>, Refusal) {
+    let list = list(rng, network);
+    let before = frames(&list[..rng.between(0, list.len())]);
+    let mut behind = frames(&list);
+    let number = rng.pick(&[0, as_number(network.edges.len() - 1), 512, 65_535]);
+    let mut line = frames(&[number]);
+    let place = rng.below(line.len());
+    match rng.below(5) {
+        0 => line[place] = rng.pick(IN_NO_LINE),
+        1 => line.insert(place, rng.pick(b"05f")),
+        2 => {
+            line.remove(place);
+        }
+        3 => line[..2].copy_from_slice(rng.pick(&[b"00", b"02", b"04", b"06", b"15"])),
+        _ => {
+            line.truncate(place.max(1));
+            behind.clear();
+        }
+    }
+    ([before, line, behind].concat(), BROKEN_TEXT)
 }
 
 fn frames(edges: &[u16]) -> Vec<u8> {

@@ -1,11 +1,13 @@
 //! Families of networks: accepted ones, and ones that the check refuses.
 
 use super::costs::beyond_limits;
+use super::damage::break_line;
 use super::{damage, CostStyle, Rng};
 use crate::cuts::Multigraph;
 use crate::lines::{EDGE, HEAD};
 use crate::refusal::{
-    Refusal, BAD_COST, BAD_EDGE, BAD_RESERVED, BAD_VERTEX_COUNT, NOT_FOUR_REGULAR, SMALL_CUT,
+    Refusal, BAD_COST, BAD_EDGE, BAD_RESERVED, BAD_VERTEX_COUNT, BROKEN_TEXT, NOT_FOUR_REGULAR,
+    SMALL_CUT,
 };
 use crate::texts::{write_network, Edge, Network, COST_LIMIT, MOST_VERTICES};
 
@@ -498,6 +500,17 @@ pub fn aimed_network(rng: &mut Rng, aim: NetworkAim, vertices: usize) -> (Vec<u8
         rest.to_vec()
     });
     (faulty, aim.refusal())
+}
+
+/// A network text with a broken line or bytes left over, and the refusal that is due.
+pub fn broken_network(rng: &mut Rng, vertices: usize) -> (Vec<u8>, Refusal) {
+    let mut text = text(&network(rng, vertices));
+    if rng.once_in(4) {
+        text.push(rng.pick(b"0f\n\r\0"));
+    } else {
+        break_line(rng, &mut text);
+    }
+    (text, BROKEN_TEXT)
 }
 
 fn as_field(size: usize) -> i64 {
