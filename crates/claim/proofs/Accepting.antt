@@ -16,7 +16,7 @@ use Rattle.base.proofs.Numbered.{Numbered, answered, unless-numbered, then-meet
 use Rattle.loading.specs.Known.{Known}
 use Rattle.loading.specs.Loading.{networkOf, loadNetwork, loadedOf, loadedAnswer}
 use Rattle.loading.specs.declared.Loaded.{Loaded}
-use Rattle.loading.proofs.Reading.{loaded-read, load-numbered, loaded-known, answer-numbered, loaded-again}
+use Rattle.loading.proofs.Reading.{known-light, loaded-read, load-numbered, loaded-known, answer-numbered, loaded-again}
 use Rattle.graph.specs.Cut.{everyCut, fourEach, networkRefusal}
 use Rattle.graph.specs.Network.{here}
 use Rattle.base.specs.Limits.{vertexLimit}
@@ -74,7 +74,7 @@ pub known-running : {g : Network} → Known g → networkRefusal g ≡ 0 → Run
 known-running k p =
     record {
       sound = accepted-sound (k .fresh) p;
-      light = k .light;
+      light = known-light k;
       left = omega (arith, fresh-remaining (k .fresh), k .several);
       edge-room = k .edge-room;
       vertex-room = k .vertex-room;

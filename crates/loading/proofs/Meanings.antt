@@ -1,11 +1,10 @@
--- A network that was read: its ends are vertices, every vertex is present, and its costs are small.
+-- A network that was read: its ends are vertices, every vertex is present, and its costs are within the limit.
 use mathlib.Core.Path.{_≡_, sym, _∙_, ap}
 use mathlib.Core.Bool.{true, false}
 use mathlib.Core.List.{List}
 use Prim.Native.Nat.{ℕ, _*_, _≤_, _<_}
 use native.Mathlib.Omega.{arith}
 use native.Mathlib.Decide.{decLt}
-use native.Mathlib.Nat.{mul-le-mul-right}
 use lib.Dec.{ltb}
 use lib.ListN.{length, getD, replicate, length-replicate, List·getD-eq-default}
 use lib.IntN.{pos, natAbs}
@@ -16,9 +15,9 @@ use Rattle.base.specs.Limits.{costLimit, edgeLimit, vertexLimit}
 use Rattle.base.proofs.Bools.{never}
 use Rattle.base.proofs.LimitLaws.{cost-within}
 use Rattle.base.proofs.Parts.{length-over, over-at}
-use Rattle.base.proofs.Sums.{sum-ext, sum-ones, sum-bound, tabulate-length, tabulate-at}
+use Rattle.base.proofs.Sums.{sum-ext, sum-ones, tabulate-length, tabulate-at}
 use Rattle.graph.specs.Network.{costOf, here}
-use Rattle.graph.specs.Sound.{Formed, Fresh, weight, Light}
+use Rattle.graph.specs.Sound.{Formed, Fresh}
 use Rattle.network_text.specs.Text.{Meaning, Valid}
 use Rattle.loading.specs.Loading.{stateOf, noEnds, noCosts, networkOf}
 
@@ -80,11 +79,8 @@ module _ {m : Meaning} (s : Valid m) where
   pub loaded-fresh : Fresh (networkOf m)
   loaded-fresh = record { formed = loaded-formed; all-here = unfold networkOf stateOf in all-present }
 
-  pub loaded-light : Light (networkOf m)
-  unfolding weight networkOf stateOf
-  loaded-light =
-      let each : (e : ℕ) → e < 2 * m .vertices → natAbs (costOf (networkOf m) e) ≤ costLimit =
-      λ e l. rw (over-at (m .cost) noCosts (pos 0) e (omega (arith, s .cost-count)))
-      (cost-within (getD (m .cost) e (pos 0)) (s .limited e l)) in
-      let all = sum-bound (2 * m .vertices) costLimit (λ e. natAbs (costOf (networkOf m) e)) each in
-      omega (arith, mul-le-mul-right costLimit fits)
+  pub loaded-within : (e : ℕ) → e < networkOf m .edges → natAbs (costOf (networkOf m) e) ≤ costLimit
+  unfolding networkOf stateOf
+  loaded-within e l =
+      rw (over-at (m .cost) noCosts (pos 0) e (omega (arith, s .cost-count)))
+      (cost-within (getD (m .cost) e (pos 0)) (s .limited e l))

@@ -4,14 +4,17 @@ use mathlib.Core.List.{List}
 use Prim.Native.Nat.{ℕ, _≤_, _<_}
 use native.Mathlib.Omega.{arith}
 use lib.ListN.{replicate}
+use lib.IntN.{natAbs}
 use Rattle.base.specs.Answer.{Answer, refused, answer, andThen}
 use Rattle.base.specs.Fold.{fold, tabulate}
-use Rattle.base.specs.Limits.{vertexLimit}
+use Rattle.base.specs.Limits.{vertexLimit, costLimit}
 use Rattle.base.specs.Refusals.{COST}
 use Rattle.base.proofs.Answers.{unless-refused, unless-next, unless-answered}
 use Rattle.base.proofs.Bools.{no-answer}
 use Rattle.base.proofs.Numbered.{Numbered, answered, unless-numbered, then-meeting}
-use Rattle.graph.specs.Network.{degree}
+use Rattle.base.proofs.Sums.{sum-bound}
+use Rattle.graph.specs.Network.{costOf, degree}
+use Rattle.graph.specs.Sound.{weight, Light}
 use Rattle.graph.specs.declared.Network.{Network}
 use Rattle.incidence.specs.Degrees.{degreesOf}
 use Rattle.network_text.specs.Text.{Meaning, Valid, readNetwork}
@@ -20,7 +23,7 @@ use Rattle.network_text.proofs.Meaning.{read-valid}
 use Rattle.loading.specs.Known.{Known, Ready}
 use Rattle.loading.specs.Loading.{stateOf, networkOf, loadNetwork, noNetwork, loadedOf, loadedAnswer}
 use Rattle.loading.specs.declared.Loaded.{Loaded}
-use Rattle.loading.proofs.Meanings.{loaded-fresh, loaded-light, low-long}
+use Rattle.loading.proofs.Meanings.{loaded-fresh, loaded-within, low-long}
 
 -- ── a network that is read from its text ──
 
@@ -28,12 +31,18 @@ use Rattle.loading.proofs.Meanings.{loaded-fresh, loaded-light, low-lon
 pub known-of : {m : Meaning} → Valid m → Known (networkOf m)
 known-of {m} v = record {
   fresh = loaded-fresh v;
-  light = loaded-light v;
+  within = loaded-within v;
   several = unfold networkOf stateOf in v .many;
   vertex-room = unfold networkOf stateOf in v .few;
   edge-room = unfold networkOf stateOf in omega (arith, v .few);
   long = low-long v;
 }
+
+-- the sizes of a known network's costs sum to less than 2 to the power 62
+pub known-light : {g : Network} → Known g → Light g
+unfolding weight
+known-light {g} k =
+    omega (arith, sum-bound (g .edges) costLimit (λ e. natAbs (costOf g e)) (k .within), k .edge-room)
 
 -- the meaning that was read
 pub loaded-read : (t : List ℕ) (g : Network) → loadNetwork t ≡ answer g

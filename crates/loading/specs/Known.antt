@@ -1,9 +1,11 @@
 -- What is known of a network that is loaded, from whatever text.
 use mathlib.Core.Path.{_≡_}
-use Prim.Native.Nat.{_≤_}
+use Prim.Native.Nat.{ℕ, _≤_, _<_}
 use lib.ListN.{length}
-use Rattle.graph.specs.Sound.{Fresh, Light}
-use Rattle.base.specs.Limits.{fewestVertices, edgeLimit, vertexLimit}
+use lib.IntN.{natAbs}
+use Rattle.graph.specs.Network.{costOf}
+use Rattle.graph.specs.Sound.{Fresh}
+use Rattle.base.specs.Limits.{fewestVertices, edgeLimit, vertexLimit, costLimit}
 use Rattle.graph.specs.declared.Network.{Network}
 use Rattle.incidence.specs.Degrees.{degreesOf}
 use Rattle.loading.specs.declared.Loaded.{Loaded}
@@ -11,8 +13,8 @@ use Rattle.loading.specs.declared.Loaded.{Loaded}
 pub record Known (g : Network) : Type 0 where
   -- its ends are vertices, and every vertex is present
   pub fresh : Fresh g
-  -- its costs' sizes sum to less than 2 to the power 62
-  pub light : Light g
+  -- each of its costs is within the limit
+  pub within : (e : ℕ) → e < g .edges → natAbs (costOf g e) ≤ costLimit
   -- it has at least as many vertices as a network has
   pub several : fewestVertices ≤ g .vertices
   -- the state has room for its vertices
