@@ -3,7 +3,6 @@ use mathlib.Core.Path.{_≡_, refl, sym, _∙_, ap}
 use mathlib.Core.List.{List}
 use Prim.Native.Nat.{ℕ, _≤_, _<_}
 use native.Mathlib.Omega.{arith}
-use native.Mathlib.Nat.{mul-le-mul-right}
 use lib.ListN.{replicate}
 use lib.IntN.{natAbs}
 use Rattle.base.specs.Answer.{Answer, refused, answer, andThen}
@@ -43,11 +42,7 @@ known-of {m} v = record {
 pub known-light : {g : Network} → Known g → Light g
 unfolding weight
 known-light {g} k =
-    omega (
-      arith,
-      sum-bound (g .edges) costLimit (λ e. natAbs (costOf g e)) (k .within),
-      mul-le-mul-right costLimit (k .edge-room),
-    )
+    omega (arith, sum-bound (g .edges) costLimit (λ e. natAbs (costOf g e)) (k .within), k .edge-room)
 
 -- the meaning that was read
 pub loaded-read : (t : List ℕ) (g : Network) → loadNetwork t ≡ answer g
