@@ -1,4 +1,4 @@
--- How many bytes the longest texts have. Each number is tied to the table of frames by a law of the crate of its text.
+-- How many bytes the longest texts have. Each number is tied to the lines of its text by a law of that text's crate.
 use Prim.Native.Nat.{ℕ}
 
 -- a network text (law `longest-network`)
@@ -16,3 +16,7 @@ longestKept = 3619
 -- a table text (law `longest-table`)
 abbrev pub longestTable : ℕ
 longestTable = 10767
+
+-- a page (law `longest-page`)
+abbrev pub longestPage : ℕ
+longestPage = 18981

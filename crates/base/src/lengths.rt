@@ -1,8 +1,10 @@
-// How many bytes the longest texts have. Each number is tied to the table of frames by a law of the crate of its text:
-// `longest-network`, `longest-chain`, `longest-kept`.
+// How many bytes the longest texts have. Each number is tied to the lines of its text by a law of that text's crate:
+// `longest-network`, `longest-chain`, `longest-kept`, `longest-page`.
 
 pub const LONGEST_NETWORK: usize = 11_787;
 
 pub const LONGEST_CHAIN: usize = 3_817;
 
 pub const LONGEST_KEPT: usize = 3_619;
+
+pub const LONGEST_PAGE: usize = 18_981;

@@ -10,6 +10,7 @@ pub use column::copy_costs;
 pub use lengths::LONGEST_CHAIN;
 pub use lengths::LONGEST_KEPT;
 pub use lengths::LONGEST_NETWORK;
+pub use lengths::LONGEST_PAGE;
 pub use limits::COST_LIMIT;
 pub use limits::EDGE_LIMIT;
 pub use limits::FEWEST_VERTICES;

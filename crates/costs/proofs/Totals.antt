@@ -8,7 +8,7 @@ use native.Mathlib.Decide.{ℕ-discrete}
 use lib.Dec.{eqb}
 use lib.ListN.{set, replicate, getD-replicate, length-replicate}
 use lib.Seq.{getD-set-same, getD-set-other}
-use lib.IntN.{ℤ, pos, natAbs, _+ℤ_}
+use lib.IntN.{ℤ, pos, natAbs, _+ℤ_, +ℤ-idr}
 use mir.Syntax.{w64}
 use mir.Val.{SFits, toZ, ofZ}
 use Rattle.base.specs.Fold.{fold, sumℤ}
@@ -17,11 +17,7 @@ use Rattle.graph.specs.Sound.{weight, Light}
 use Rattle.graph.specs.declared.Network.{Network}
 use Rattle.base.proofs.Bools.{eqb-self, eqb-no}
 use Rattle.base.proofs.Sums.{fold-more, fold-ext, sum-le, sum-fewer}
-use Rattle.base.proofs.Integers.{P, N, plus, eqℤ, size-plus, size-fits, read-back, sumℤ-size}
-
-plus-zero : (a : ℤ) → a +ℤ pos 0 ≡ a
-unfolding P N
-plus-zero a = eqℤ _ _ (omega (arith, plus a (pos 0)))
+use Rattle.base.proofs.Integers.{size-plus, size-fits, read-back, sumℤ-size}
 
 -- the cost of the marked edges among the first e
 abbrev pub costAmong : Network → List Bool → ℕ → ℤ
@@ -37,7 +33,7 @@ module _ (g : Network) (K : List Bool) where
 
   pub among-unmarked : (e : ℕ) → kept K e ≡ false → costAmong g K (e + 1) ≡ costAmong g K e
   among-unmarked e h =
-      fold-more _+ℤ_ (pos 0) e (λ i. cond (kept K i) (costOf g i) (pos 0)) ∙ rw h (plus-zero (costAmong g K e))
+      fold-more _+ℤ_ (pos 0) e (λ i. cond (kept K i) (costOf g i) (pos 0)) ∙ rw h (+ℤ-idr (costAmong g K e))
 
   pub among-all : costAmong g K (g .edges) ≡ keptCost g K
   unfolding costOver

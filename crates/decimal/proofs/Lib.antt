@@ -1,2 +1,3 @@
 pub mod Digits
 pub mod Printing
+pub mod Examples

@@ -7,8 +7,8 @@ use Prim.Native.Nat.{ℕ, zero, suc, _+_, _-_, _^_, _≤_, _<_}
 use native.Mathlib.Omega.{arith}
 use native.Mathlib.Decide.{decLt}
 use lib.Dec.{leb, leb·suc-suc, ltb}
-use lib.ListN.{length, take, drop, getD, set, replicate, length-append, length-replicate, length-set}
-use lib.Seq.{drop-at, drop-cons, drop-set-lt, getD-set-same, length-take-le}
+use lib.ListN.{length, take, getD, set, replicate, length-append, length-replicate, replicate-append-replicate}
+use lib.Seq.{append-snoc, set-at, take-at}
 use lib.IntN.{ℤ, pos, negsuc, negℤ, natAbs}
 use lib.Signed.{mag, ltZ}
 use borrow.Author.Tests.{le-ltb, lt-ltb, lt-leb, leb-true, ne-eqb}
@@ -113,12 +113,6 @@ unfolding inBaseTen
 negative-printed (pos v) h = never (sym (le-ltb v 0 (omega arith)) ∙ h)
 negative-printed (negsuc v) h = refl
 
--- the number stands at the end of a column, from a place on
-pub record Placed (z : ℤ) (size at : ℕ) (out : List ℕ) : Type 0 where
-  pub sized : length out ≡ size
-  pub placed : at + length (inBaseTen z) ≡ size
-  pub printed : drop at out ≡ inBaseTen z
-
 module _ (z : ℤ) (w : ℕ) (fit : fits w z ≡ true) where
   room-is : length (inBaseTen z) ≤ w
   room-is = unfold fits in leb-true (length (inBaseTen z)) w fit
@@ -131,49 +125,38 @@ module _ (z : ℤ) (w : ℕ) (fit : fits w z ≡ true) where
       go true h = omega (arith, room-is, ap length (negative-printed z h))
       go false h = omega (arith, room-is, ap length (positive-printed z h))
 
-  module _ (before : List ℕ) (at : ℕ) (out : List ℕ) (e : out ≡ take at before ++ digits (natAbs z))
-      (n : at + length (digits (natAbs z)) ≡ w) (size : length before ≡ w) where
-    front : length (take at before) ≡ at
-    front = length-take-le at before (omega arith)
-
-    long : length out ≡ w
-    long = ap length e ∙ length-append (take at before) (digits (natAbs z)) ∙ omega (arith, front)
-
-    behind : drop at out ≡ digits (natAbs z)
-    behind = ap (drop at) e ∙ drop-at (take at before) (digits (natAbs z)) at front
-
-    pub positive-placed : ltZ z (pos 0) ≡ false → Placed z w at out
-    positive-placed h =
+  -- digits behind spaces, from the place of the first on
+  module _ (first : ℕ) (n : first + length (digits (natAbs z)) ≡ w) where
+    pub positive-aligned : ltZ z (pos 0) ≡ false → replicate first space ++ digits (natAbs z) ≡ aligned w z
+    unfolding aligned
+    positive-aligned h =
         let p = positive-printed z h in
-        record { sized = long; placed = rw p n; printed = behind ∙ sym p }
+        let e : first ≡ w - length (inBaseTen z) = omega (arith, ap length p) in
+        rw (← e, p)
 
-    pub minus-place : ltZ z (pos 0) ≡ true → 0 < at
+    pub minus-place : ltZ z (pos 0) ≡ true → 0 < first
     minus-place h = omega (arith, room-is, ap length (negative-printed z h))
 
-    pub negative-placed : ltZ z (pos 0) ≡ true → Placed z w (at - 1) (set out (at - 1) minus)
-    negative-placed h =
+    -- the minus takes the place of the last space
+    pub negative-aligned : ltZ z (pos 0) ≡ true
+        → set (replicate first space ++ digits (natAbs z)) (first - 1) minus ≡ aligned w z
+    unfolding aligned
+    negative-aligned h =
         let p = negative-printed z h in
-        let o = minus-place h in
-        let inside : at - 1 < length out = omega (arith, long) in
-        let next : suc (at - 1) ≡ at = omega arith in
-        record {
-          sized = length-set out (at - 1) minus ∙ long;
-          placed = omega (arith, ap length p);
-          printed =
-              drop-cons (set out (at - 1) minus) (at - 1) 0 (rw length-set inside)
-              ∙ rw (
-                getD-set-same out (at - 1) minus 0 inside,
-                drop-set-lt (suc (at - 1)) out (at - 1) minus (omega arith),
-                next,
-                behind,
-                p,
-              );
-        }
+        let k = first - 1 in
+        let e : k ≡ w - length (inBaseTen z) = omega (arith, ap length p, minus-place h) in
+        let one : k + 1 ≡ first = omega (arith, minus-place h) in
+        let last : replicate first space ≡ replicate k space ++ (space ∷ []) =
+        sym (replicate-append-replicate k 1 space ∙ ap (λ m. replicate m space) one) in
+        ap (λ s. set (s ++ digits (natAbs z)) k minus) last
+        ∙ ap (λ s. set s k minus) (append-snoc (replicate k space) space (digits (natAbs z)))
+        ∙ set-at (replicate k space) space (digits (natAbs z)) minus k (length-replicate k space)
+        ∙ rw (← e, p)
 
--- with spaces before it, it is printed over the whole column
-pub aligned-placed : {z : ℤ} {w at : ℕ} {out : List ℕ} → Placed z w at out
-    → replicate at space ++ drop at out ≡ aligned w z
-unfolding aligned
-aligned-placed {z} {w} {at} w' =
-    let e : at ≡ w - length (inBaseTen z) = omega (arith, w' .placed) in
-    rw (w' .printed, e)
+-- the first of nothing but spaces
+pub take-spaces : (k w : ℕ) → k ≤ w → take k (replicate w space) ≡ replicate k space
+take-spaces k w h =
+    let e : w ≡ k + (w - k) = omega arith in
+    ap (λ m. take k (replicate m space)) e
+    ∙ ap (take k) (sym (replicate-append-replicate k (w - k) space))
+    ∙ take-at (replicate k space) (replicate (w - k) space) k (length-replicate k space)

@@ -58,10 +58,9 @@ pub fn put_aligned(out: &mut [u8], number: i64)
     requires { ⌜ fits (length (now out)) number ≡ true ⌝ }
     ensures { λ r. ⌜ now (out .exit) ≡ aligned (length (now (out .entry))) number ⌝ }
 {
-    let mut at = put_digits(out, size_of(number));
+    put_spaces(out);
+    let first = put_digits(out, size_of(number));
     if number < 0 {
-        at -= 1;
-        out[at] = MINUS;
+        out[first - 1] = MINUS;
     }
-    put_spaces(&mut out[..at]);
 }

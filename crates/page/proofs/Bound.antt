@@ -14,6 +14,7 @@ use borrow.Author.Tests.{le-leb, le-ltb, lt-leb}
 use Rattle.base.specs.Answer.{Answer, refused, answer, andThen, refusalOf}
 use Rattle.base.specs.Columns.{at}
 use Rattle.base.specs.Fold.{sumℤ}
+use Rattle.base.specs.Lengths.{longestPage}
 use Rattle.base.specs.Limits.{edgeLimit}
 use Rattle.base.specs.Words.{AllBelow}
 use Rattle.base.proofs.Bools.{no-answer, and-both}
@@ -243,6 +244,19 @@ as-audit t l = ap refusalOf (page-loaded t l) ∙ go (loadList t l)
     go (refused k) = unfold andThen in refl
     go (answer w) = unfold andThen in refl
 
+-- ── how long a page can be ──
+
+-- the number of base is what the lines say
+pub longest-page : pageLength edgeLimit ≡ longestPage
+unfolding pageLength
+longest-page = refl
+
+longest : (t l p : List ℕ) → pageText t l ≡ answer p → length p ≤ longestPage
+unfolding pageLength
+longest t l p e =
+    let w = print-of t l p e in
+    omega (arith, printed-length w, few w, longest-page)
+
 -- ── which limit the page bears ──
 
 bears : (limit : ℕ)
@@ -273,5 +287,6 @@ binder = record {
   sum-last = λ t l p e. printed-sum (print-of t l p e);
   as-audit = as-audit;
   lines = lines;
+  longest = longest;
   bears = bears;
 }

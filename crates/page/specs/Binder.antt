@@ -2,13 +2,14 @@
 use mathlib.Core.Bool.{_&&_}
 use mathlib.Core.List.{List}
 use mathlib.Core.Path.{_≡_}
-use Prim.Native.Nat.{ℕ, _*_, _<_}
+use Prim.Native.Nat.{ℕ, _*_, _≤_, _<_}
 use lib.Dec.{leb}
 use lib.IntN.{pos, negℤ}
 use lib.ListN.{length}
 use Rattle.base.specs.Answer.{answer, refusalOf}
 use Rattle.base.specs.Columns.{at}
 use Rattle.base.specs.Fold.{sumℤ}
+use Rattle.base.specs.Lengths.{longestPage}
 use Rattle.base.specs.Limits.{edgeLimit}
 use Rattle.decimal.specs.BaseTen.{fits}
 use Rattle.graph.specs.Network.{lowEnd, highEnd, costOf}
@@ -37,6 +38,8 @@ pub record Binder : Type 0 where
       → readList (g .vertices) l ≡ answer es → pageText t l ≡ answer p
       → (length p ≡ pageLength (length es)) × (linesAbove p ≡ length es)
       × ((i : ℕ) → i < length es → Shows g p i (at es i))
+  -- no page is longer than that of as many edges as a network may have
+  pub longest : (t l p : List ℕ) → pageText t l ≡ answer p → length p ≤ longestPage
   -- up to which limit of costs the column of costs has room for every sum
   pub bears : (limit : ℕ)
       → leb limit costBorne
