@@ -1,4 +1,4 @@
-// Pages for the site binder: of lists over T, of costs at their limits, of every cable, and each refusal.
+// Pages for the site binder: of lists over T, in short buffers, at the limits of costs, and each refusal.
 use super::refused;
 use super::say;
 use base::COST_LIMIT;
@@ -8,10 +8,17 @@ use base::LONGEST_PAGE;
 use base::Reply;
 use base::VERTEX_LIMIT;
 use libc::STDOUT_FILENO;
+use list_text::write_list;
 use network_text::write_network;
 use page::print_page;
+ghost use Prim.Native.Nat.{_≤_};
 
-// Says what a list is, and writes its page or the refusal.
+// How many bytes the list of every cable of 256 cabinets has, and where the last line of its page starts.
+const LONGEST_LIST: usize = 3_584;
+
+const LAST_LINE: usize = 18_944;
+
+// Says what is printed, and writes the page of a list or the refusal.
 fn page_of(what: &[u8], text: &[u8], listed: &[u8]) {
     say(what);
     say(b": ");
@@ -25,4 +32,129 @@ fn page_of(what: &[u8], text: &[u8], listed: &[u8]) {
             refused(number);
         }
     }
+}
+
+// Says what is printed, and how a buffer of so many bytes is answered.
+fn in_room(what: &[u8], text: &[u8], listed: &[u8], room: usize)
+    requires { ⌜ room ≤ 148 ⌝ }
+{
+    say(what);
+    say(b": ");
+    let mut page = [0u8; 148];
+    match print_page(text, listed, &mut page[..room]) {
+        Reply::Done(_) => {
+            say(b"printed\n");
+        }
+        Reply::Refused(number) => {
+            refused(number);
+        }
+    }
+}
+
+// The numbers of as many cables as a network may have.
+fn every_number() -> [u16; EDGE_LIMIT] {
+    let mut edges = [0u16; EDGE_LIMIT];
+    let mut edge = 0;
+    while edge < EDGE_LIMIT {
+        edges[edge] = edge as u16;
+        edge += 1;
+    }
+    edges
+}
+
+// Says what every cable of 256 cabinets costs, and writes the last line of the page of all of them.
+fn every_cable(what: &[u8], each: i64) {
+    say(what);
+    say(b": ");
+    let low = [0u16; EDGE_LIMIT];
+    let high = [1u16; EDGE_LIMIT];
+    let cost = [each; EDGE_LIMIT];
+    let edges = every_number();
+    let mut text = [0u8; LONGEST_NETWORK];
+    let mut list = [0u8; LONGEST_LIST];
+    let mut page = [0u8; LONGEST_PAGE];
+    write_network(VERTEX_LIMIT, 0, &low, &high, &cost, &mut text);
+    write_list(VERTEX_LIMIT, &edges, &mut list);
+    match print_page(&text, &list, &mut page) {
+        Reply::Done(_) => {
+            say(b"printed, last\n");
+            io::write_all(STDOUT_FILENO, &page[LAST_LINE..]);
+        }
+        Reply::Refused(number) => {
+            refused(number);
+        }
+    }
+}
+
+// Lists over T, and buffers with just enough room for them or a byte less.
+fn lists(text: &[u8]) {
+    page_of(b"T's plan", text, b"050001\n050002\n050005\n");
+    in_room(b"in 148 bytes", text, b"050001\n050002\n050005\n", 148);
+    in_room(b"in 147 bytes", text, b"050001\n050002\n050005\n", 147);
+    page_of(b"no cable of T", text, b"");
+    in_room(b"in 37 bytes", text, b"", 37);
+    in_room(b"in 36 bytes", text, b"", 36);
+    page_of(
+        b"every cable of T",
+        text,
+        b"050000\n050001\n050002\n050003\n050004\n050005\n",
+    );
+}
+
+// Lists that are refused, also where there is no room.
+fn bad_lists(text: &[u8]) {
+    page_of(b"a page of cables 2, 1", text, b"050002\n050001\n");
+    page_of(b"a page of cable 6", text, b"050006\n");
+    in_room(b"the same in no room", text, b"050006\n", 0);
+    page_of(b"a page of a list cut off", text, b"050001\n05000");
+    in_room(b"the same in no room", text, b"050001\n05000", 0);
+    page_of(b"a page over no network", b"", b"050006\n");
+}
+
+// Networks that are refused, and two that read but are not accepted.
+fn networks() {
+    page_of(b"a page of one cabinet", b"0100010000\n", b"050006\n");
+    page_of(b"a page with cable 6 of T reserved", b"0100030006\n", b"");
+    page_of(
+        b"a page with a cable from 1 to 0",
+        b"0100020000\n0200000001000000000001\n",
+        b"",
+    );
+    page_of(
+        b"a page with cost -1,000,000,001",
+        b"0100020000\n02000000000001c46535ff\n",
+        b"",
+    );
+    page_of(
+        b"a page with 0-1 three times, 0-2 twice, 1-2",
+        b"0100030000\n0200000000000100000001\n0200010000000100000001\n0200020000000100000001\n\
+            0200030000000200000001\n0200040000000200000001\n0200050001000200000001\n",
+        b"050000\n050005\n",
+    );
+    page_of(
+        b"a page with 0-1 three times, 2-3 three times, 0-2, 1-3",
+        b"0100040000\n0200000000000100000001\n0200010000000100000001\n0200020000000100000001\n\
+            0200030002000300000001\n0200040002000300000001\n0200050002000300000001\n0200060000000200000001\n\
+            0200070001000300000001\n",
+        b"050007\n",
+    );
+}
+
+// Costs at their limits, alone and together.
+fn costs() {
+    page_of(
+        b"costs -1,000,000,000, 1,000,000,000, -1 and 0",
+        b"0100020000\n02000000000001c4653600\n020001000000013b9aca00\n02000200000001ffffffff\n\
+            0200030000000100000000\n",
+        b"050000\n050001\n050002\n050003\n",
+    );
+    every_cable(b"512 cables at 1,000,000,000", COST_LIMIT);
+    every_cable(b"512 cables at -1,000,000,000", -COST_LIMIT);
+}
+
+pub fn run(text: &[u8]) {
+    lists(text);
+    bad_lists(text);
+    networks();
+    costs();
 }

@@ -8,6 +8,7 @@ use libc::STDOUT_FILENO;
 use thinning::check_chain;
 use thinning::check_network;
 
+mod binder;
 mod solver;
 mod tally;
 
@@ -201,6 +202,7 @@ fn main() {
             0200030002000300000004\n0200040000000200000009\n0200050001000300000003\n0200060000000300000006\n\
             0200070001000200000002\n";
     islands(printed, four);
+    binder::run(printed);
     square(four);
     solver::run();
 }
