@@ -2,3 +2,4 @@ pub mod Printing
 pub mod Pages
 pub mod Answering
 pub mod Bound
+pub mod Examples
