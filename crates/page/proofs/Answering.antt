@@ -4,17 +4,19 @@ use mathlib.Core.Bool.{Bool, false}
 use mathlib.Core.List.{List}
 use Prim.Native.Nat.{ℕ, _+_, _*_, _≤_}
 use native.Mathlib.Omega.{arith}
+use lib.ListN.{length}
 use Rattle.base.specs.Answer.{Answer, refused, answer, andThen}
 use Rattle.base.specs.Fold.{among, tabulate}
 use Rattle.base.specs.Limits.{edgeLimit}
 use Rattle.base.proofs.Picks.{Rising, pick-ext, pick-rising}
-use Rattle.base.proofs.Sums.{tabulate-at}
+use Rattle.base.proofs.Sums.{tabulate-length, tabulate-at}
 use Rattle.graph.specs.declared.Network.{Network}
 use Rattle.kept_text.specs.Text.{isKept, keptEdges}
 use Rattle.list_text.specs.Text.{readList}
 use Rattle.list_text.proofs.Listed.{list-rising}
 use Rattle.loading.specs.ListLoading.{listedMarks, loadList}
 use Rattle.loading.specs.Loading.{stateOf, networkOf, loadNetwork}
+use Rattle.loading.proofs.ListReading.{list-found}
 use Rattle.loading.proofs.Reading.{loaded-read, loaded-known}
 use Rattle.page.specs.Page.{pageOf, pageText}
 
@@ -62,3 +64,9 @@ module _ (t l : List ℕ) where
       → pageText t l ≡ answer (pageOf g (keptEdges (g .edges) K))
   unfolding andThen
   page-answered g K e = page-loaded t l ∙ rw e
+
+  -- there is a mark for each edge that a network has room for
+  pub marks-long : (g : Network) (K : List Bool) → loadList t l ≡ answer (g, K) → length K ≡ edgeLimit
+  marks-long g K e =
+      let w = list-found t l g K e in
+      ap length (w .marks) ∙ unfold listedMarks in tabulate-length edgeLimit (λ i. among i (w .edges))

@@ -10,7 +10,7 @@ use Rattle.decimal.specs.BaseTen.{aligned, fits}
 use Rattle.graph.specs.declared.Network.{Network}
 use Rattle.kept_text.specs.Text.{keptEdges}
 use Rattle.loading.specs.Known.{Known}
-use Rattle.page.specs.Page.{costWidth, pageLine, edgeLines}
+use Rattle.page.specs.Page.{costWidth, pageLine, edgeLines, pageOf}
 
 -- room for a number between two places of a line
 pub record ColumnRoom (line : List ℕ) (start end : ℕ) (z : ℤ) : Type 0 where
@@ -37,3 +37,8 @@ pub record SumRoom (line : List ℕ) (sum : ℤ) : Type 0 where
 pub record LinesRoom (g : Network) (listed : List Bool) (page : List ℕ) : Type 0 where
   pub known : Known g
   pub long : length (edgeLines g (keptEdges (g .edges) listed)) ≤ length page
+
+-- room for their page
+pub record PageRoom (g : Network) (listed : List Bool) (page : List ℕ) : Type 0 where
+  pub known : Known g
+  pub long : length (pageOf g (keptEdges (g .edges) listed)) ≤ length page

@@ -12,27 +12,20 @@ use lines::put_lines;
 use lines::put_sum;
 use loading::load_list;
 ghost use mathlib.Core.Path.{_≡_};
-ghost use Rattle.base.specs.Answer.{answer, replyOf, after};
+ghost use Rattle.base.specs.Answer.{over, replyOf, after};
 ghost use Rattle.kept_text.specs.Text.{keptEdges};
 ghost use Rattle.page.specs.Page.{pageOf, pageText};
-ghost use Rattle.loading.specs.Known.{Known};
+ghost use Rattle.page.specs.Room.{PageRoom};
 
-// Writes the page of the listed edges to the start of `page`, if there is room.
-fn write_page(network: Network, listed: [bool; EDGE_LIMIT], page: &mut [u8]) -> Reply
-    requires { ⌜ Known network ⌝ }
-    ensures reply { λ r. ⌜ r ≡
-        replyOf (answer (pageOf network (keptEdges (network .edges) listed))) (now (page .entry)) ⌝ }
-    ensures page { λ r. ⌜ now (page .exit) ≡
-        after (answer (pageOf network (keptEdges (network .edges) listed))) (now (page .entry)) ⌝ }
+// Writes the page of the listed edges to the start of `page`.
+fn put_page(network: Network, listed: [bool; EDGE_LIMIT], page: &mut [u8])
+    requires { ⌜ PageRoom network listed (now page) ⌝ }
+    ensures { λ r. ⌜ now (page .exit) ≡
+        over (pageOf network (keptEdges (network .edges) listed)) (now (page .entry)) ⌝ }
 {
-    let length = page_length(&listed, network.edges);
-    if page.len() < length {
-        return Reply::Refused(SHORT);
-    }
     let sum = kept_cost(network, Kept { marks: listed });
     let at = put_lines(network, listed, page);
     put_sum(&mut page[at..], sum);
-    Reply::Done(length)
 }
 
 // Prints a list of edges over a network text, which must read but need not be accepted: refusals
@@ -45,10 +38,15 @@ pub fn print_page(network: &[u8], list: &[u8], page: &mut [u8]) -> Reply
 {
     let loaded = load_list(network, list);
     let refusal = loaded.refusal;
+    let state = loaded.network;
+    let listed = loaded.listed;
     if 0 < refusal {
         return Reply::Refused(refusal);
     }
-    let state = loaded.network;
-    let listed = loaded.listed;
-    write_page(state, listed, page)
+    let length = page_length(&listed, state.edges);
+    if page.len() < length {
+        return Reply::Refused(SHORT);
+    }
+    put_page(state, listed, page);
+    Reply::Done(length)
 }
