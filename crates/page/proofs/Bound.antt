@@ -33,7 +33,7 @@ use Rattle.loading.specs.ListLoading.{loadList}
 use Rattle.loading.specs.Loading.{loadNetwork}
 use Rattle.loading.proofs.Reading.{loaded-known}
 use Rattle.page.specs.Binder.{Shows, Binder}
-use Rattle.page.specs.Page.{numberWidth, costWidth, costPlace, pageLine, lineOf, edgeLines, sumLine, costSum}
+use Rattle.page.specs.Page.{numberWidth, costWidth, costPlace, pageLine, edgeLine, edgeLines, sumLine, costSum}
 use Rattle.page.specs.Page.{pageOf, pageLength, pageText, linesAbove, numberOn, costOn, costBorne}
 use Rattle.page.proofs.Answering.{loaded-edges, page-loaded, printed}
 use Rattle.page.proofs.Pages.{length-edge, length-lines, length-page, low-small, high-small, edge-small}
@@ -44,10 +44,10 @@ use Rattle.page.proofs.Printing.{number-fits, cost-fits}
 
 -- a line and what stands behind it, column by column
 columns : (e low high : ℕ) (cost : ℤ) (rest : List ℕ)
-    → lineOf e low high cost ++ rest
+    → edgeLine e low high cost ++ rest
     ≡ aligned numberWidth (pos e) ++ (aligned numberWidth (pos low) ++ (aligned numberWidth (pos high)
     ++ (aligned costWidth cost ++ (FEED ∷ rest))))
-unfolding lineOf
+unfolding edgeLine
 columns e low high cost rest = simp append-assoc
 
 module _ {g : Network} (k : Known g) where
@@ -57,14 +57,14 @@ module _ {g : Network} (k : Known g) where
   -- what stands from a line on
   line-at : (es : List ℕ) → AllBelow (g .edges) es → (i : ℕ) → i < length es → (rest : List ℕ)
       → (later : List ℕ) × (drop (i * pageLine) (edgeLines g es ++ rest)
-      ≡ lineOf (at es i) (lowEnd g (at es i)) (highEnd g (at es i)) (costOf g (at es i)) ++ later)
+      ≡ edgeLine (at es i) (lowEnd g (at es i)) (highEnd g (at es i)) (costOf g (at es i)) ++ later)
   unfolding edgeLines
   line-at [] b i h rest = absurd (omega arith)
   line-at (e ∷ es) b zero h rest =
-      let line = lineOf e (lowEnd g e) (highEnd g e) (costOf g e) in
+      let line = edgeLine e (lowEnd g e) (highEnd g e) (costOf g e) in
       (edgeLines g es ++ rest, append-assoc line (edgeLines g es) rest)
   line-at (e ∷ es) b (suc i) h rest =
-      let line = lineOf e (lowEnd g e) (highEnd g e) (costOf g e) in
+      let line = edgeLine e (lowEnd g e) (highEnd g e) (costOf g e) in
       let found = line-at es (b .1) i (omega arith) rest in
       let place : suc i * pageLine ≡ pageLine + i * pageLine = omega arith in (
         found .0,
@@ -89,7 +89,7 @@ module _ {g : Network} (k : Known g) where
 
   -- the numbers of an edge that its line prints
   shows : (p : List ℕ) (i e : ℕ) → e < g .edges → (later : List ℕ)
-      → drop (i * pageLine) p ≡ lineOf e (lowEnd g e) (highEnd g e) (costOf g e) ++ later → Shows g p i e
+      → drop (i * pageLine) p ≡ edgeLine e (lowEnd g e) (highEnd g e) (costOf g e) ++ later → Shows g p i e
   unfolding numberOn costOn
   shows p i e h later starts =
       let start = i * pageLine in

@@ -8,7 +8,7 @@ use Rattle.base.specs.Fold.{fold, tabulate}
 use Rattle.decimal.specs.BaseTen.{digitsThen, digits, inBaseTen, aligned}
 use Rattle.graph.specs.Districts.{District, T}
 use Rattle.graph.proofs.Examples.{networkOf}
-use Rattle.page.specs.Page.{lineOf, edgeLines, sumLine, costSum, pageOf}
+use Rattle.page.specs.Page.{edgeLine, edgeLines, sumLine, costSum, pageOf}
 
 -- so many spaces, a character, and then rest
 abbrev behind : ℕ → ℕ → List ℕ → List ℕ
@@ -20,7 +20,7 @@ plan-printed : pageOf (networkOf T) (1 ∷ 2 ∷ 5 ∷ [])
     behind 5 50 (behind 5 48 (behind 5 50 (behind 17 49 (10 ∷
     behind 5 53 (behind 5 49 (behind 5 50 (behind 17 51 (10 ∷
     behind 35 56 (10 ∷ [])))))))))))))
-unfolding pageOf edgeLines lineOf sumLine costSum networkOf fold tabulate aligned inBaseTen digits digitsThen
+unfolding pageOf edgeLines edgeLine sumLine costSum networkOf fold tabulate aligned inBaseTen digits digitsThen
 plan-printed = refl
 
 -- 35 spaces and 0
@@ -37,5 +37,5 @@ debts-printed : pageOf (networkOf debts) (0 ∷ 1 ∷ [])
     ≡ behind 5 48 (behind 5 48 (behind 5 49 (behind 15 45 (49 ∷ 50 ∷ 10 ∷
     behind 5 49 (behind 5 48 (behind 5 49 (behind 17 55 (10 ∷
     behind 34 45 (53 ∷ 10 ∷ [])))))))))
-unfolding pageOf edgeLines lineOf sumLine costSum networkOf fold tabulate aligned inBaseTen digits digitsThen
+unfolding pageOf edgeLines edgeLine sumLine costSum networkOf fold tabulate aligned inBaseTen digits digitsThen
 debts-printed = refl

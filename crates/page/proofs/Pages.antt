@@ -23,7 +23,7 @@ use Rattle.graph.specs.declared.Network.{Network}
 use Rattle.kept_text.specs.Text.{isKept, keptEdges}
 use Rattle.kept_text.proofs.Texts.{few-kept}
 use Rattle.loading.specs.Known.{Known}
-use Rattle.page.specs.Page.{costWidth, pageLine, lineOf, edgeLines, sumLine, costSum, pageOf, pageLength}
+use Rattle.page.specs.Page.{costWidth, pageLine, edgeLine, edgeLines, sumLine, costSum, pageOf, pageLength}
 use Rattle.page.proofs.Printing.{cost-fits, length-line, length-sum}
 
 -- ── the lines of edges ──
@@ -31,7 +31,7 @@ use Rattle.page.proofs.Printing.{cost-fits, length-line, length-sum}
 -- the lines that are left, where the edge at the place is listed
 pub line-kept : (g : Network) (p : ℕ → Bool) (n k : ℕ) → k < n → p k ≡ true
     → edgeLines g (pick (n - k) k p)
-    ≡ lineOf k (lowEnd g k) (highEnd g k) (costOf g k) ++ edgeLines g (pick (n - (k + 1)) (k + 1) p)
+    ≡ edgeLine k (lowEnd g k) (highEnd g k) (costOf g k) ++ edgeLines g (pick (n - (k + 1)) (k + 1) p)
 unfolding edgeLines
 line-kept g p n k h t = ap (edgeLines g) (pick-kept p n k h t)
 
@@ -49,7 +49,7 @@ module _ {g : Network} (k : Known g) where
     pub cost-fitting : fits costWidth (costOf g e) ≡ true
     cost-fitting = cost-fits (costOf g e) (omega (arith, k .within e h))
 
-    pub length-edge : length (lineOf e (lowEnd g e) (highEnd g e) (costOf g e)) ≡ pageLine
+    pub length-edge : length (edgeLine e (lowEnd g e) (highEnd g e) (costOf g e)) ≡ pageLine
     length-edge =
         length-line e (lowEnd g e) (highEnd g e) (costOf g e) edge-small low-small high-small cost-fitting
 
@@ -57,7 +57,7 @@ module _ {g : Network} (k : Known g) where
   unfolding edgeLines
   length-lines [] b = refl
   length-lines (e ∷ es) b =
-      length-append (lineOf e (lowEnd g e) (highEnd g e) (costOf g e)) (edgeLines g es)
+      length-append (edgeLine e (lowEnd g e) (highEnd g e) (costOf g e)) (edgeLines g es)
       ∙ omega (arith, length-edge e (b .0), length-lines es (b .1))
 
   -- ── the sum ──

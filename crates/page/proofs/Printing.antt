@@ -15,7 +15,7 @@ use Rattle.base.proofs.Filling.{over-set}
 use Rattle.decimal.specs.BaseTen.{space, aligned, fits}
 use Rattle.decimal.proofs.Printing.{right-aligned}
 use Rattle.frame.specs.Line.{FEED}
-use Rattle.page.specs.Page.{numberWidth, costWidth, costPlace, pageLine, lineOf, sumLine, costBorne}
+use Rattle.page.specs.Page.{numberWidth, costWidth, costPlace, pageLine, edgeLine, sumLine, costBorne}
 use Rattle.page.specs.Room.{column}
 
 -- ── which numbers have room in the columns ──
@@ -34,8 +34,8 @@ cost-fits (negsuc v) h =
 
 module _ (e low high : ℕ) (cost : ℤ) (edge : e < edgeLimit) (lower : low < edgeLimit) (higher : high < edgeLimit)
     (fit : fits costWidth cost ≡ true) where
-  pub length-line : length (lineOf e low high cost) ≡ pageLine
-  unfolding lineOf
+  pub length-line : length (edgeLine e low high cost) ≡ pageLine
+  unfolding edgeLine
   length-line =
       let wide = right-aligned .width in
       let first = aligned numberWidth (pos e) in
@@ -102,8 +102,8 @@ module _ (old : List ℕ) (h : pageLine ≤ length old) where
     wide v l = right-aligned .width numberWidth (pos v) (number-fits v l)
 
     pub edge-line : set (column 18 36 cost (column 12 18 (pos high) (column 6 12 (pos low) (column 0 6 (pos e) old)))) 36 FEED
-        ≡ over (lineOf e low high cost) old
-    unfolding lineOf
+        ≡ over (edgeLine e low high cost) old
+    unfolding edgeLine
     edge-line =
         let first = aligned numberWidth (pos e) in
         let second = first ++ aligned numberWidth (pos low) in

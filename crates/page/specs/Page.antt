@@ -31,15 +31,15 @@ pageLine = costPlace + costWidth + 1
 -- ── the page ──
 
 -- the line of an edge: its number, its lower end, its higher end and its cost
-unfoldable pub lineOf : ℕ → ℕ → ℕ → ℤ → List ℕ
-lineOf e low high cost =
+unfoldable pub edgeLine : ℕ → ℕ → ℕ → ℤ → List ℕ
+edgeLine e low high cost =
     aligned numberWidth (pos e) ++ aligned numberWidth (pos low) ++ aligned numberWidth (pos high)
     ++ aligned costWidth cost ++ (FEED ∷ [])
 
 -- the lines of edges, one behind the other
 unfoldable pub edgeLines : Network → List ℕ → List ℕ
 edgeLines g [] = []
-edgeLines g (e ∷ es) = lineOf e (lowEnd g e) (highEnd g e) (costOf g e) ++ edgeLines g es
+edgeLines g (e ∷ es) = edgeLine e (lowEnd g e) (highEnd g e) (costOf g e) ++ edgeLines g es
 
 -- the last line: spaces, and the sum of the costs
 unfoldable pub sumLine : ℤ → List ℕ

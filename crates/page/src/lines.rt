@@ -11,7 +11,7 @@ ghost use lib.ListN.{length};
 ghost use Rattle.base.specs.Answer.{over};
 ghost use Rattle.base.specs.Limits.{edgeLimit};
 ghost use Rattle.kept_text.specs.Text.{keptEdges};
-ghost use Rattle.page.specs.Page.{lineOf, edgeLines, sumLine, pageLength};
+ghost use Rattle.page.specs.Page.{edgeLine, edgeLines, sumLine, pageLength};
 ghost use Rattle.page.specs.Room.{ColumnRoom, column, LineRoom, SumRoom, LinesRoom};
 
 // Where the columns end: an edge's number, its lower end, its higher end, its cost.
@@ -45,8 +45,8 @@ fn put_column(line: &mut [u8], start: usize, end: usize, number: i64)
 // Writes the line of an edge to the start of `line`, and answers its length.
 fn put_edge(line: &mut [u8], edge: usize, low: u8, high: u8, cost: i64) -> usize
     requires { ⌜ LineRoom (now line) edge cost ⌝ }
-    ensures { λ r. ⌜ (r ≡ length (lineOf edge low high cost)) ×
-        (now (line .exit) ≡ over (lineOf edge low high cost) (now (line .entry))) ⌝ }
+    ensures { λ r. ⌜ (r ≡ length (edgeLine edge low high cost)) ×
+        (now (line .exit) ≡ over (edgeLine edge low high cost) (now (line .entry))) ⌝ }
 {
     put_column(line, 0, NUMBER_END, edge as i64);
     put_column(line, NUMBER_END, LOWER_END, low as i64);

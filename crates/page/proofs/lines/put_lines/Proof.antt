@@ -16,7 +16,7 @@ use Rattle.graph.specs.Network.{lowEnd, highEnd, costOf}
 use Rattle.graph.proofs.Differences.{cost-kept}
 use Rattle.kept_text.specs.Text.{isKept, keptEdges}
 use Rattle.loading.proofs.Reading.{known-light}
-use Rattle.page.specs.Page.{lineOf, edgeLines}
+use Rattle.page.specs.Page.{edgeLine, edgeLines}
 use Rattle.page.proofs.Pages.{line-kept, edge-small, cost-fitting, length-edge}
 use Rattle.page.proofs.lines.put_lines.Statement.{statement}
 use Rattle.page.proofs.lines.put_lines.Tie as tie
@@ -49,7 +49,7 @@ abbrev line : tie.Then1 Inv-loop μ-loop → List ℕ
 line c =
     let g = entry (at-listed c) .args .t1 in
     let e = at-listed c .loop .edge in
-    lineOf e (lowEnd g e) (highEnd g e) (costOf g e)
+    edgeLine e (lowEnd g e) (highEnd g e) (costOf g e)
 
 abbrev later : tie.Then1 Inv-loop μ-loop → List ℕ
 later c =
