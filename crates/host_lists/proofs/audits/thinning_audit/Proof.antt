@@ -1,8 +1,8 @@
--- `host_audits::audits::thinning_audit` meets its contract.
+-- `host_lists::audits::thinning_audit` meets its contract.
 use borrow.Author.Needs.{needs}
-use Rattle.host_audits.proofs.Numbers.{audit-refused, audit-answered}
-use Rattle.host_audits.proofs.audits.thinning_audit.Statement.{statement}
-use Rattle.host_audits.proofs.audits.thinning_audit.Tie as tie
+use Rattle.host_lists.proofs.Numbers.{audit-refused, audit-answered}
+use Rattle.host_lists.proofs.audits.thinning_audit.Statement.{statement}
+use Rattle.host_lists.proofs.audits.thinning_audit.Tie as tie
 
 audit-list-requires : tie.Need-audit-list-requires
 audit-list-requires c κs = search needs

@@ -1,8 +1,8 @@
--- `host_audits::pages::thinning_print_page` meets its contract.
+-- `host_lists::pages::thinning_print_page` meets its contract.
 use borrow.Author.Needs.{needs}
 use Rattle.base.proofs.Exports.{reply-refused, reply-done}
-use Rattle.host_audits.proofs.pages.thinning_print_page.Statement.{statement}
-use Rattle.host_audits.proofs.pages.thinning_print_page.Tie as tie
+use Rattle.host_lists.proofs.pages.thinning_print_page.Statement.{statement}
+use Rattle.host_lists.proofs.pages.thinning_print_page.Tie as tie
 
 print-page-requires : tie.Need-print-page-requires
 print-page-requires c κs = search needs
