@@ -34,18 +34,6 @@ module _ (Law : ℕ → ℕ → List ℕ → Type 0)
     | no g ↦ many more v rest (omega arith) h (by-digits more (v / 10) (digit (v % 10) ∷ rest) (omega arith))
   ]
 
--- the digits stand before the rest
-pub digits-append : (more v : ℕ) (s rest : List ℕ) → digitsThen more v (s ++ rest) ≡ digitsThen more v s ++ rest
-unfolding digitsThen
-digits-append zero v s rest = refl
-digits-append (suc more) v s rest = go (ltb v 10) (digits-append more (v / 10) (digit (v % 10) ∷ s) rest)
-  where
-    go : (b : Bool) → digitsThen more (v / 10) (digit (v % 10) ∷ (s ++ rest)) ≡ digitsThen more (v / 10) (digit (v % 10) ∷ s) ++ rest
-        → cond b (digit v ∷ (s ++ rest)) (digitsThen more (v / 10) (digit (v % 10) ∷ (s ++ rest)))
-        ≡ cond b (digit v ∷ s) (digitsThen more (v / 10) (digit (v % 10) ∷ s)) ++ rest
-    go true e = refl
-    go false e = e
-
 -- ── what is read ──
 
 pub value-digits : (more v : ℕ) (rest : List ℕ) → v ≤ more → valueThen 0 (digitsThen more v rest) ≡ valueThen v rest

@@ -1,5 +1,5 @@
 pub mod Printing
 pub mod Pages
 pub mod Answering
-pub mod Bound
+pub mod Binder
 pub mod Examples

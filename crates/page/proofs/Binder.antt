@@ -51,9 +51,6 @@ unfolding edgeLine
 columns e low high cost rest = simp append-assoc
 
 module _ {g : Network} (k : Known g) where
-  wide : (v : ℕ) → v < edgeLimit → length (aligned numberWidth (pos v)) ≡ numberWidth
-  wide v h = right-aligned .width numberWidth (pos v) (number-fits v h)
-
   -- what stands from a line on
   line-at : (es : List ℕ) → AllBelow (g .edges) es → (i : ℕ) → i < length es → (rest : List ℕ)
       → (later : List ℕ) × (drop (i * pageLine) (edgeLines g es ++ rest)
