@@ -50,6 +50,18 @@ columns : (e low high : ℕ) (cost : ℤ) (rest : List ℕ)
 unfolding edgeLine
 columns e low high cost rest = simp append-assoc
 
+-- a number is read from the place where it is printed, and the next one stands behind it
+module _ (p : List ℕ) (place w : ℕ) (z : ℤ) (fit : fits w z ≡ true) (rest : List ℕ)
+    (e : drop place p ≡ aligned w z ++ rest) where
+  read : numberIn (take w (drop place p)) ≡ z
+  read =
+      ap (λ s. numberIn (take w s)) e
+      ∙ ap numberIn (take-at (aligned w z) rest w (right-aligned .width w z fit)) ∙ right-aligned .read-back w z
+
+  next : drop (place + w) p ≡ rest
+  next =
+      sym (drop-drop w place p) ∙ ap (drop w) e ∙ drop-at (aligned w z) rest w (right-aligned .width w z fit)
+
 module _ {g : Network} (k : Known g) where
   -- what stands from a line on
   line-at : (es : List ℕ) → AllBelow (g .edges) es → (i : ℕ) → i < length es → (rest : List ℕ)
@@ -71,18 +83,6 @@ module _ {g : Network} (k : Known g) where
             ∙ ap (drop (i * pageLine)) (drop-at line (edgeLines g es ++ rest) pageLine (length-edge k e (b .0)))
             ∙ found .1,
       )
-
-  -- a number is read from the place where it is printed, and the next one stands behind it
-  module _ (p : List ℕ) (place w : ℕ) (z : ℤ) (fit : fits w z ≡ true) (rest : List ℕ)
-      (e : drop place p ≡ aligned w z ++ rest) where
-    read : numberIn (take w (drop place p)) ≡ z
-    read =
-        ap (λ s. numberIn (take w s)) e
-        ∙ ap numberIn (take-at (aligned w z) rest w (right-aligned .width w z fit)) ∙ right-aligned .read-back w z
-
-    next : drop (place + w) p ≡ rest
-    next =
-        sym (drop-drop w place p) ∙ ap (drop w) e ∙ drop-at (aligned w z) rest w (right-aligned .width w z fit)
 
   -- the numbers of an edge that its line prints
   shows : (p : List ℕ) (i e : ℕ) → e < g .edges → (later : List ℕ)
@@ -135,7 +135,7 @@ module _ {g : Network} (k : Known g) (es : List ℕ) (below : AllBelow (g .edges
       let start = length es * pageLine in
       let sum-place : drop start p ≡ sumLine (costSum g es) =
       drop-at (edgeLines g es) (sumLine (costSum g es)) start (length-lines k es below) in
-      read k p (start + costPlace) costWidth (costSum g es) (sum-fitting k es below few) (FEED ∷ [])
+      read p (start + costPlace) costWidth (costSum g es) (sum-fitting k es below few) (FEED ∷ [])
       (sym (drop-drop costPlace start p) ∙ ap (drop costPlace) sum-place ∙ behind-spaces (costSum g es))
     where
       behind-spaces : (sum : ℤ) → drop costPlace (sumLine sum) ≡ aligned costWidth sum ++ (FEED ∷ [])
