@@ -18,7 +18,8 @@ unfolding digitsThen
 one-digit zero v rest h = refl
 one-digit (suc more) v rest h = rw (lt-ltb v 10 h)
 
-pub more-digits : (more v : ℕ) (rest : List ℕ) → 10 ≤ v → digitsThen (suc more) v rest ≡ digitsThen more (v / 10) (digit (v % 10) ∷ rest)
+pub more-digits : (more v : ℕ) (rest : List ℕ) → 10 ≤ v
+    → digitsThen (suc more) v rest ≡ digitsThen more (v / 10) (digit (v % 10) ∷ rest)
 unfolding digitsThen
 more-digits more v rest h = rw (le-ltb v 10 h)
 
@@ -208,7 +209,8 @@ module _ {number : ℕ} {out₀ out : List ℕ} {at left : ℕ} (w : Written num
       let e = sym (one-digit (w .more) left (drop (suc at) out) h) ∙ w .whole in
       let inside : at < length out = omega (arith, w .size, w .within) in
       let before : take at out ≡ take at out₀ =
-      sym (take-take at (suc at) out (omega arith)) ∙ ap (take at) (w .unwritten) ∙ take-take at (suc at) out₀ (omega arith)
+      sym (take-take at (suc at) out (omega arith)) ∙ ap (take at) (w .unwritten)
+      ∙ take-take at (suc at) out₀ (omega arith)
       in (
         omega (arith, ap length e, length-drop (suc at) out, w .size, w .within),
         set-split out at (digit left) inside ∙ rw (before, e),

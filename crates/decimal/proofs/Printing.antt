@@ -63,9 +63,13 @@ number-digits v =
     ap numberIn (w .starts) ∙ unsigned w ∙ ap (λ s. pos (valueThen 0 s)) (sym (w .starts))
     ∙ ap pos (value-digits v v [] (omega arith) ∙ unfold valueThen in refl)
   where
-    unsigned : {s : List ℕ} (w : Leading v s) → numberIn (digit (w .value) ∷ w .later) ≡ pos (valueThen 0 (digit (w .value) ∷ w .later))
+    unsigned : {s : List ℕ} (w : Leading v s)
+        → numberIn (digit (w .value) ∷ w .later) ≡ pos (valueThen 0 (digit (w .value) ∷ w .later))
     unsigned w = unfold numberIn in
-        rw (ne-eqb (digit (w .value)) space (λ e. absurd (omega arith)), ne-eqb (digit (w .value)) minus (λ e. absurd (omega arith)))
+        rw (
+          ne-eqb (digit (w .value)) space (λ e. absurd (omega arith)),
+          ne-eqb (digit (w .value)) minus (λ e. absurd (omega arith)),
+        )
 
 number-printed : (z : ℤ) → numberIn (inBaseTen z) ≡ z
 unfolding inBaseTen numberIn

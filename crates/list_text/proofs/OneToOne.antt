@@ -48,7 +48,8 @@ read-written n m t e = go (listIn n (listed (map frameOf m))) refl e
     go (answer es) p e =
         let w = frames-answered n (listed (map frameOf m)) es p in
         let d = same-edges n m es p in
-        let short : Words m = rw d at (below-more (2 * n) (2 ^ 16) (omega arith) es (rising-below 0 (2 * n) es (w .1 .rises))) in
+        let below = rising-below 0 (2 * n) es (w .1 .rises) in
+        let short : Words m = rw d at (below-more (2 * n) (2 ^ 16) (omega arith) es below) in
         let q : t ≡ listText m = cc in
         rw (q, found m short) (p ∙ ap answer d)
 

@@ -98,10 +98,11 @@ module _ {g : Network} (k : Known g) where
       let second = aligned numberWidth (pos (lowEnd g e)) ++ third in
       let at-first : drop (start + 0) p ≡ aligned numberWidth (pos e) ++ second =
       rw add-zero (starts ∙ columns e (lowEnd g e) (highEnd g e) (costOf g e) later) in
+      let low = pos (lowEnd g e) in
+      let high = pos (highEnd g e) in
       let at-second = place p start 0 second (next p (start + 0) numberWidth (pos e) edge second at-first) in
-      let at-third = place p start 6 third (next p (start + 6) numberWidth (pos (lowEnd g e)) lower third at-second) in
-      let at-fourth = place p start 12 fourth (next p (start + 12) numberWidth (pos (highEnd g e)) higher fourth at-third)
-      in
+      let at-third = place p start 6 third (next p (start + 6) numberWidth low lower third at-second) in
+      let at-fourth = place p start 12 fourth (next p (start + 12) numberWidth high higher fourth at-third) in
       record {
         number = read p (start + 0) numberWidth (pos e) edge second at-first;
         lower = read p (start + 6) numberWidth (pos (lowEnd g e)) lower third at-second;
@@ -126,7 +127,8 @@ module _ {g : Network} (k : Known g) (es : List ℕ) (below : AllBelow (g .edges
   unfolding pageOf
   line-shows i h =
       let found = line-at k es below i h (sumLine (costSum g es)) in
-      shows k (edgeLines g es ++ sumLine (costSum g es)) i (at es i) (below-at (g .edges) es below i h) (found .0) (found .1)
+      let inside = below-at (g .edges) es below i h in
+      shows k (edgeLines g es ++ sumLine (costSum g es)) i (at es i) inside (found .0) (found .1)
 
   last-shows : costOn (pageOf g es) (length es) ≡ costSum g es
   unfolding costOn pageOf
@@ -199,7 +201,8 @@ module _ {t l p : List ℕ} (w : Print t l p) where
 
 lines : (t l p : List ℕ) (g : Network) (es : Meaning) → loadNetwork t ≡ answer g
     → readList (g .vertices) l ≡ answer es → pageText t l ≡ answer p
-    → (length p ≡ pageLength (length es)) × (linesAbove p ≡ length es) × ((i : ℕ) → i < length es → Shows g p i (at es i))
+    → (length p ≡ pageLength (length es)) × (linesAbove p ≡ length es)
+    × ((i : ℕ) → i < length es → Shows g p i (at es i))
 unfolding pageText andThen
 lines t l p g es loads reads e =
     let due : andThen (answer g) (λ h. andThen (readList (h .vertices) l) (λ fs. answer (pageOf h fs))) ≡ answer p =

@@ -68,7 +68,8 @@ length-sum sum fit =
 
 -- one column more, behind those that are printed
 pub next-column : (start end : ℕ) (z : ℤ) (xs old out : List ℕ) → length xs ≡ start → start ≤ end → end ≤ length old
-    → fits (end - start) z ≡ true → out ≡ over xs old → column start end z out ≡ over (xs ++ aligned (end - start) z) old
+    → fits (end - start) z ≡ true → out ≡ over xs old
+    → column start end z out ≡ over (xs ++ aligned (end - start) z) old
 unfolding column over
 next-column start end z xs old out n o h fit e =
     let ys = aligned (end - start) z in
@@ -101,18 +102,23 @@ module _ (old : List ℕ) (h : pageLine ≤ length old) where
     wide : (v : ℕ) → v < edgeLimit → length (aligned numberWidth (pos v)) ≡ numberWidth
     wide v l = right-aligned .width numberWidth (pos v) (number-fits v l)
 
-    pub edge-line : set (column 18 36 cost (column 12 18 (pos high) (column 6 12 (pos low) (column 0 6 (pos e) old)))) 36 FEED
+    pub edge-line
+        : set (column 18 36 cost (column 12 18 (pos high) (column 6 12 (pos low) (column 0 6 (pos e) old)))) 36 FEED
         ≡ over (edgeLine e low high cost) old
     unfolding edgeLine
     edge-line =
         let first = aligned numberWidth (pos e) in
         let second = first ++ aligned numberWidth (pos low) in
         let third = second ++ aligned numberWidth (pos high) in
-        let one = next-column 0 6 (pos e) [] old old refl (omega arith) (omega arith) (number-fits e edge) nothing-over in
+        let fit-first = number-fits e edge in
+        let fit-second = number-fits low lower in
+        let fit-third = number-fits high higher in
+        let one = next-column 0 6 (pos e) [] old old refl (omega arith) (omega arith) fit-first nothing-over in
         let n2 : length second ≡ 12 = length-append first _ ∙ omega (arith, wide e edge, wide low lower) in
-        let two = next-column 6 12 (pos low) first old _ (wide e edge) (omega arith) (omega arith) (number-fits low lower) one in
+        let n1 = wide e edge in
+        let two = next-column 6 12 (pos low) first old _ n1 (omega arith) (omega arith) fit-second one in
         let n3 : length third ≡ 18 = length-append second _ ∙ omega (arith, wide high higher) in
-        let three = next-column 12 18 (pos high) second old _ n2 (omega arith) (omega arith) (number-fits high higher) two in
+        let three = next-column 12 18 (pos high) second old _ n2 (omega arith) (omega arith) fit-third two in
         let four = next-column 18 36 cost third old _ n3 (omega arith) (omega arith) fit three in
         let n4 : length (third ++ aligned costWidth cost) ≡ 36 =
         length-append third _ ∙ omega (arith, right-aligned .width costWidth cost fit) in

@@ -25,7 +25,8 @@ add-result c =
 cast-result : tie.Need-cast-result
 cast-result c =
     let s = c .before in
-    cast-pos _ _ (positive-is (s .args .number) (s .fits .number) (c .if1 .left)) (omega (arith, s .fits .number .sfits))
+    let f = s .fits .number in
+    cast-pos _ _ (positive-is (s .args .number) f (c .if1 .left)) (omega (arith, f .sfits))
 
 returns : tie.Need-returns
 returns c =

@@ -90,9 +90,11 @@ returns c =
     let two : p .put-column2 .last .0 ≡ column 6 12 (pos (a .low)) (column 0 6 (pos (a .edge)) old) =
     rw (small (a .low) l, one) at (p .put-column2 .ensures) in
     let three = rw (small (a .high) h, two) at (q .put-column3 .ensures) in
-    let four = rw (toZ-ofZ (s .fits .cost), three) at (r .put-column4 .ensures) in (
-      sym (length-line (a .edge) (a .low) (a .high) (a .cost) (s .pre .edge) l h (s .pre .fitting)),
-      rw four (edge-line old (s .pre .long) (a .edge) (a .low) (a .high) (a .cost) (s .pre .edge) l h (s .pre .fitting)),
+    let four = rw (toZ-ofZ (s .fits .cost), three) at (r .put-column4 .ensures) in
+    let edge = s .pre .edge in
+    let fit = s .pre .fitting in (
+      sym (length-line (a .edge) (a .low) (a .high) (a .cost) edge l h fit),
+      rw four (edge-line old (s .pre .long) (a .edge) (a .low) (a .high) (a .cost) edge l h fit),
     )
 
 pub put-edge-spec : {M : Type 1} → statement M

@@ -24,8 +24,8 @@ use Rattle.page.proofs.lines.put_lines.Tie as tie
 abbrev Inv-loop : tie.InvT-loop
 Inv-loop page₀ network listed edges at₀ edge₀ page at edge =
     (edge ≤ edges)
-    × Written (edgeLines network (keptEdges edges listed)) (edgeLines network (pick (edges - edge) edge (isKept listed)))
-    page₀ page at
+    × Written (edgeLines network (keptEdges edges listed))
+    (edgeLines network (pick (edges - edge) edge (isKept listed))) page₀ page at
 
 abbrev μ-loop : tie.MeasureT-loop
 μ-loop page₀ network listed edges at₀ edge₀ page at edge = edges - edge
@@ -65,8 +65,8 @@ line-due : (c : tie.Then1 Inv-loop μ-loop) →
 line-due c =
     let k = at-listed c in
     let a = entry k .args in
-    let first = line-kept (a .t1) (isKept (a .t2)) (a .t1 .edges) (k .loop .edge) (edge-inside (c .before)) (c .if1 .taken)
-    in
+    let inside = edge-inside (c .before) in
+    let first = line-kept (a .t1) (isKept (a .t2)) (a .t1 .edges) (k .loop .edge) inside (c .if1 .taken) in
     rw first at (k .loop .inv .1)
 
 -- the line starts within the page
