@@ -1,22 +1,11 @@
 // Pages for the site binder: of lists over T, in short buffers, at the limits of costs, and each refusal.
 use super::refused;
 use super::say;
-use base::COST_LIMIT;
-use base::EDGE_LIMIT;
-use base::LONGEST_NETWORK;
 use base::LONGEST_PAGE;
 use base::Reply;
-use base::VERTEX_LIMIT;
 use libc::STDOUT_FILENO;
-use list_text::write_list;
-use network_text::write_network;
 use page::print_page;
 ghost use Prim.Native.Nat.{_≤_};
-
-// How many bytes the list of every cable of 256 cabinets has, and where the last line of its page starts.
-const LONGEST_LIST: usize = 3_584;
-
-const LAST_LINE: usize = 18_944;
 
 // Says what is printed, and writes the page of a list or the refusal.
 fn page_of(what: &[u8], text: &[u8], listed: &[u8]) {
@@ -44,41 +33,6 @@ fn in_room(what: &[u8], text: &[u8], listed: &[u8], room: usize)
     match print_page(text, listed, &mut page[..room]) {
         Reply::Done(_) => {
             say(b"printed\n");
-        }
-        Reply::Refused(number) => {
-            refused(number);
-        }
-    }
-}
-
-// The numbers of as many cables as a network may have.
-fn every_number() -> [u16; EDGE_LIMIT] {
-    let mut edges = [0u16; EDGE_LIMIT];
-    let mut edge = 0;
-    while edge < EDGE_LIMIT {
-        edges[edge] = edge as u16;
-        edge += 1;
-    }
-    edges
-}
-
-// Says what every cable of 256 cabinets costs, and writes the last line of the page of all of them.
-fn every_cable(what: &[u8], each: i64) {
-    say(what);
-    say(b": ");
-    let low = [0u16; EDGE_LIMIT];
-    let high = [1u16; EDGE_LIMIT];
-    let cost = [each; EDGE_LIMIT];
-    let edges = every_number();
-    let mut text = [0u8; LONGEST_NETWORK];
-    let mut list = [0u8; LONGEST_LIST];
-    let mut page = [0u8; LONGEST_PAGE];
-    write_network(VERTEX_LIMIT, 0, &low, &high, &cost, &mut text);
-    write_list(VERTEX_LIMIT, &edges, &mut list);
-    match print_page(&text, &list, &mut page) {
-        Reply::Done(_) => {
-            say(b"printed, last\n");
-            io::write_all(STDOUT_FILENO, &page[LAST_LINE..]);
         }
         Reply::Refused(number) => {
             refused(number);
@@ -121,6 +75,11 @@ fn networks() {
         b"",
     );
     page_of(
+        b"a page with cost 1,000,000,001",
+        b"0100020000\n020000000000013b9aca01\n",
+        b"",
+    );
+    page_of(
         b"a page with cost -1,000,000,001",
         b"0100020000\n02000000000001c46535ff\n",
         b"",
@@ -140,7 +99,7 @@ fn networks() {
     );
 }
 
-// Costs at their limits, alone and together.
+// Costs at their limits, below zero, and none.
 fn costs() {
     page_of(
         b"costs -1,000,000,000, 1,000,000,000, -1 and 0",
@@ -148,8 +107,6 @@ fn costs() {
             0200030000000100000000\n",
         b"050000\n050001\n050002\n050003\n",
     );
-    every_cable(b"512 cables at 1,000,000,000", COST_LIMIT);
-    every_cable(b"512 cables at -1,000,000,000", -COST_LIMIT);
 }
 
 pub fn run(text: &[u8]) {
