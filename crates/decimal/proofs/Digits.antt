@@ -11,6 +11,7 @@ use lib.ListN.{length, take, drop, set, length-drop, length-set}
 use lib.Seq.{drop-length, drop-cons, drop-set-lt, getD-set-same, set-split, take-set-le, take-take}
 use borrow.Author.Tests.{le-ltb, lt-ltb, le-leb, lt-leb}
 use Rattle.decimal.specs.BaseTen.{digit, digitsThen, digits, valueThen}
+use Rattle.decimal.specs.RightAligned.{AllDigits}
 
 -- a number of one digit, and one of more
 pub one-digit : (more v : ℕ) (rest : List ℕ) → v < 10 → digitsThen more v rest ≡ digit v ∷ rest
@@ -73,6 +74,13 @@ leading = by-digits (λ more v rest. Leading v (digitsThen more v rest))
       below = w .below;
       positive = λ p. w .positive (omega arith);
     })
+
+-- ── digits and nothing else ──
+
+pub only-digits : (more v : ℕ) (rest : List ℕ) → v ≤ more → AllDigits rest → AllDigits (digitsThen more v rest)
+only-digits = by-digits (λ more v rest. AllDigits rest → AllDigits (digitsThen more v rest))
+    (λ more v rest h r. rw (one-digit more v rest h) (omega arith, omega arith, r))
+    (λ more v rest h l k r. rw (more-digits more v rest h) (k (omega arith, omega arith, r)))
 
 -- ── how many ──
 

@@ -14,8 +14,8 @@ use lib.Signed.{mag, ltZ}
 use borrow.Author.Tests.{le-ltb, lt-ltb, lt-leb, leb-true, ne-eqb}
 use Rattle.base.proofs.Bools.{never}
 use Rattle.decimal.specs.BaseTen.{space, minus, digit, digits, inBaseTen, aligned, fits, valueThen, numberIn}
-use Rattle.decimal.specs.RightAligned.{RightAligned}
-use Rattle.decimal.proofs.Digits.{Leading, value-digits, leading, some-digit, room-digits}
+use Rattle.decimal.specs.RightAligned.{AllDigits, RightAligned}
+use Rattle.decimal.proofs.Digits.{Leading, value-digits, leading, only-digits, some-digit, room-digits}
 
 -- ── which numbers fit ──
 
@@ -89,8 +89,24 @@ first-digit v e =
     let w = leading (suc v) (suc v) [] (omega arith) in
     absurd (omega (arith, w .positive (omega arith), sym (ap (λ s. getD s 0 (digit 0)) (w .starts)) ∙ e))
 
+positive : (w v : ℕ) → aligned w (pos v) ≡ replicate (w - length (digits v)) space ++ digits v
+unfolding aligned inBaseTen
+positive w v = refl
+
+negative : (w v : ℕ)
+    → aligned w (negsuc v) ≡ replicate (w - suc (length (digits (suc v)))) space ++ (minus ∷ digits (suc v))
+unfolding aligned inBaseTen
+negative w v = refl
+
+all-digits : (v : ℕ) → AllDigits (digits v)
+unfolding digits
+all-digits v = only-digits v v [] (omega arith) tt
+
 pub right-aligned : RightAligned
 right-aligned = record {
+  positive = positive;
+  negative = negative;
+  all-digits = all-digits;
   room = room;
   no-room = no-room;
   width = width;
