@@ -1,6 +1,6 @@
 //! Pages: what is printed of lists, and what is refused before anything is.
 
-use second::generate::{self, CostStyle, ListStyle, NetworkAim, PrintedCosts, Rng, Shapeless};
+use second::generate::{self, CostStyle, NetworkAim, PrintedCosts, Rng, Shapeless};
 use second::lengths;
 use second::page::LINE_LENGTH;
 use second::properties::judge_page;
@@ -28,22 +28,9 @@ pub fn lists(rng: &mut Rng) -> Compared {
     Ok(())
 }
 
-/// For each sort of costs an accepted network or a loose one, with a list of every style. One of
-/// these lists has such costs.
+/// For each sort of costs a network with a list of every style, one of which has such costs.
 pub fn printable(rng: &mut Rng) -> [(Network, Vec<Vec<u16>>); 4] {
-    PrintedCosts::ALL.map(|costs| {
-        let vertices = generate::size(rng);
-        let mut network = if rng.once_in(2) {
-            generate::network(rng, vertices)
-        } else {
-            generate::loose_network(rng, vertices)
-        };
-        let styles = ListStyle::all(rng, &network);
-        let lists = styles.map(|style| generate::list_of(rng, &network, style));
-        let place = rng.below(lists.len());
-        costs.give(rng, &mut network, &lists[place]);
-        (network, lists.to_vec())
-    })
+    PrintedCosts::ALL.map(|costs| costs.lists(rng))
 }
 
 /// The page of all edges of a network of 256 vertices.

@@ -267,18 +267,8 @@ fn different_lists_never_print_alike() {
 
 /// A network text, accepted or not, with costs to be printed, and a list of every style.
 fn any_lists(rng: &mut Rng) -> (Vec<u8>, Vec<Vec<u16>>) {
-    let vertices = generate::size(rng);
-    let mut network = if rng.once_in(2) {
-        generate::network(rng, vertices)
-    } else {
-        generate::loose_network(rng, vertices)
-    };
-    let styles = ListStyle::all(rng, &network);
-    let lists = styles.map(|style| generate::list_of(rng, &network, style));
-    let costs = rng.pick(&PrintedCosts::ALL);
-    let priced = rng.below(lists.len());
-    costs.give(rng, &mut network, &lists[priced]);
-    (generate::text(&network), lists.to_vec())
+    let (network, lists) = rng.pick(&PrintedCosts::ALL).lists(rng);
+    (generate::text(&network), lists)
 }
 
 #[test]

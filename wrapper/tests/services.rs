@@ -32,16 +32,23 @@ fn the_printed_network_is_planned() {
     assert_eq!(thinning::check_chain(NETWORK, CHAIN), Ok(KEPT.to_vec()));
 }
 
-#[test]
-fn a_network_is_refused_by_name() {
-    let cases = [
+/// The network's text with a wrong place for each refusal that a reader gives.
+fn broken_texts() -> [(Vec<u8>, Refusal); 5] {
+    [
         (changed("0100030000\n", "0100030000"), Refusal::Form),
         (changed("0100030000", "0100010000"), Refusal::Vertices),
         (changed("0100030000", "0100030006"), Refusal::Reserved),
         (changed("020001", "020000"), Refusal::Edge),
         (changed("00000007", "7fffffff"), Refusal::Cost),
-        (changed("02000100000001", "02000100000002"), Refusal::Degree),
-    ];
+    ]
+}
+
+#[test]
+fn a_network_is_refused_by_name() {
+    let uneven = changed("02000100000001", "02000100000002");
+    let cases = broken_texts()
+        .into_iter()
+        .chain([(uneven, Refusal::Degree)]);
     for (text, refusal) in cases {
         assert_eq!(thinning::check_network(&text), Err(refusal));
         assert_eq!(thinning::plan(&text), Err(refusal));
@@ -131,14 +138,7 @@ fn costs_below_zero_are_printed_with_a_minus() {
 
 #[test]
 fn a_page_is_refused_by_name() {
-    let cases = [
-        (changed("0100030000\n", "0100030000"), Refusal::Form),
-        (changed("0100030000", "0100010000"), Refusal::Vertices),
-        (changed("0100030000", "0100030006"), Refusal::Reserved),
-        (changed("020001", "020000"), Refusal::Edge),
-        (changed("00000007", "7fffffff"), Refusal::Cost),
-    ];
-    for (text, refusal) in cases {
+    for (text, refusal) in broken_texts() {
         assert_eq!(thinning::print_page(&text, b"050006\n"), Err(refusal));
     }
     let broken = b"050006";

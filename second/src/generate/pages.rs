@@ -2,7 +2,7 @@
 
 use std::iter;
 
-use super::Rng;
+use super::{list_of, loose_network, network, size, ListStyle, Rng};
 use crate::texts::{Network, COST_LIMIT};
 
 /// How the costs of the listed edges are drawn.
@@ -26,6 +26,22 @@ impl PrintedCosts {
         PrintedCosts::OneLimit,
         PrintedCosts::RoundSum,
     ];
+
+    /// A network, accepted or loose, with a list of every style. One of these lists has costs that
+    /// are drawn this way.
+    pub fn lists(self, rng: &mut Rng) -> (Network, Vec<Vec<u16>>) {
+        let vertices = size(rng);
+        let mut network = if rng.once_in(2) {
+            network(rng, vertices)
+        } else {
+            loose_network(rng, vertices)
+        };
+        let styles = ListStyle::all(rng, &network);
+        let lists = styles.map(|style| list_of(rng, &network, style));
+        let place = rng.below(lists.len());
+        self.give(rng, &mut network, &lists[place]);
+        (network, lists.to_vec())
+    }
 
     /// Gives the listed edges of a network costs that are drawn this way.
     pub fn give(self, rng: &mut Rng, network: &mut Network, list: &[u16]) {
