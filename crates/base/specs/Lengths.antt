@@ -3,7 +3,7 @@ use Prim.Native.Nat.{ℕ}
 
 -- a network text (law `longest-network`)
 abbrev pub longestNetwork : ℕ
-longestNetwork = 11787
+longestNetwork = 15883
 
 -- a chain text (law `longest-chain`)
 abbrev pub longestChain : ℕ
@@ -15,7 +15,7 @@ longestKept = 3619
 
 -- a table text (law `longest-table`)
 abbrev pub longestTable : ℕ
-longestTable = 10767
+longestTable = 14863
 
 -- a page (law `longest-page`)
 abbrev pub longestPage : ℕ

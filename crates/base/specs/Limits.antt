@@ -25,7 +25,7 @@ verticesOk n = leb fewestVertices n && leb n vertexLimit
 
 -- a cost is within the limit on either side
 abbrev pub costLimit : ℕ
-costLimit = 1000000000
+costLimit = 1000000000000
 
 unfoldable pub costOk : ℤ → Bool
 costOk c = leZ (negsuc (costLimit - 1)) c && leZ c (pos costLimit)

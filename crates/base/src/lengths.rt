@@ -1,7 +1,7 @@
 // How many bytes the longest texts have. Each number is tied to the lines of its text by a law of that text's crate:
 // `longest-network`, `longest-chain`, `longest-kept`, `longest-page`.
 
-pub const LONGEST_NETWORK: usize = 11_787;
+pub const LONGEST_NETWORK: usize = 15_883;
 
 pub const LONGEST_CHAIN: usize = 3_817;
 

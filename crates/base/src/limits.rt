@@ -15,7 +15,7 @@ pub const EDGE_LIMIT: usize = 2 * VERTEX_LIMIT;
 pub const STEP_LIMIT: usize = VERTEX_LIMIT - FEWEST_VERTICES;
 
 // A cost is at most so far from 0.
-pub const COST_LIMIT: i64 = 1_000_000_000;
+pub const COST_LIMIT: i64 = 1_000_000_000_000;
 
 // Whether a network may have so many vertices.
 pub fn vertices_ok(n: usize) -> bool

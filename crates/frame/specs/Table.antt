@@ -8,13 +8,13 @@ use Rattle.digits.specs.Hexadecimal.{byteValues}
 abbrev pub table : List (ℕ × List ℕ)
 table =
     (0x01, 2 ∷ 2 ∷ []) ∷
-    (0x02, 2 ∷ 2 ∷ 2 ∷ 4 ∷ []) ∷
+    (0x02, 2 ∷ 2 ∷ 2 ∷ 8 ∷ []) ∷
     (0x03, 2 ∷ 2 ∷ 2 ∷ []) ∷
     (0x04, 2 ∷ []) ∷
     (0x05, 2 ∷ []) ∷
     (0x06, 8 ∷ 8 ∷ []) ∷
     (0x08, 2 ∷ 2 ∷ 2 ∷ []) ∷
-    (0x09, 2 ∷ 2 ∷ 1 ∷ 4 ∷ []) ∷
+    (0x09, 2 ∷ 2 ∷ 1 ∷ 8 ∷ []) ∷
     (0x0f, 1 ∷ []) ∷ []
 
 -- how many rows the table has

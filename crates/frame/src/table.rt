@@ -39,13 +39,13 @@ pub const REFUSAL: usize = 8;
 // length in bytes. A field ends where the next one starts; an absent field has no bytes.
 const TABLE: [u64; ROWS] = [
     0x01_01_03_05_05_05_05,
-    0x02_01_03_05_07_0b_0b,
+    0x02_01_03_05_07_0f_0f,
     0x03_01_03_05_07_07_07,
     0x04_01_03_03_03_03_03,
     0x05_01_03_03_03_03_03,
     0x06_01_09_11_11_11_11,
     0x08_01_03_05_07_07_07,
-    0x09_01_03_05_06_0a_0a,
+    0x09_01_03_05_06_0e_0e,
     0x0f_01_02_02_02_02_02,
 ];
 

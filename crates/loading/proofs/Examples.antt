@@ -16,16 +16,21 @@ use Rattle.network_frames.specs.Frames.{headRefusal, edgeRefusal, headIn, readH
 use Rattle.loading.specs.Pass.{onward, runOf, edgesAt, tallyOf, passOver, passBehind, passOf}
 use Rattle.loading.specs.declared.pass.Pass.{Pass}
 
+-- an edge by its digits, in front of what follows
+abbrev edge : ℕ → List ℕ → List ℕ
+edge = line 30
+
 -- a network of three vertices with five edges between 0 and 1, in front of what follows
 abbrev crowded : List ℕ → List ℕ
 crowded rest =
     line 10 0x0100030000
-    (line 22 0x0200000000000100000001
-    (line 22 0x0200010000000100000001
-    (line 22 0x0200020000000100000001 (line 22 0x0200030000000100000001 (line 22 0x0200040000000100000001 rest)))))
+    (edge 0x020000000000010000000000000001
+    (edge 0x020001000000010000000000000001
+    (edge 0x020002000000010000000000000001
+    (edge 0x020003000000010000000000000001 (edge 0x020004000000010000000000000001 rest)))))
 
 abbrev last : List ℕ
-last = line 22 0x0200050001000200000001 []
+last = edge 0x020005000100020000000000000001 []
 
 -- the refusal, its place, how many edges were read, and how many of them are at each vertex
 abbrev said : Pass → List ℕ
@@ -35,12 +40,12 @@ said p = p .refusal ∷ p .place ∷ p .read ∷ take 3 (p .tally)
 abbrev pub cases : List (List ℕ × List ℕ)
 cases =
     -- nothing is refused: 6 is not the pass's to give
-    (crowded last, 0 ∷ 149 ∷ 6 ∷ 5 ∷ 6 ∷ 1 ∷ []) ∷
+    (crowded last, 0 ∷ 197 ∷ 6 ∷ 5 ∷ 6 ∷ 1 ∷ []) ∷
     -- the last frame's ends, its cost, its form, and a byte left over
-    (crowded (line 22 0x0200050002000000000001 []), 4 ∷ 126 ∷ 5 ∷ 5 ∷ 5 ∷ 0 ∷ []) ∷
-    (crowded (line 22 0x020005000100023b9aca01 []), 5 ∷ 126 ∷ 5 ∷ 5 ∷ 5 ∷ 0 ∷ []) ∷
-    (crowded (line 21 0x020005000100020000000 []), 1 ∷ 126 ∷ 5 ∷ 5 ∷ 5 ∷ 0 ∷ []) ∷
-    (crowded (last ++ (48 ∷ [])), 1 ∷ 149 ∷ 6 ∷ 5 ∷ 6 ∷ 1 ∷ []) ∷
+    (crowded (edge 0x020005000200000000000000000001 []), 4 ∷ 166 ∷ 5 ∷ 5 ∷ 5 ∷ 0 ∷ []) ∷
+    (crowded (edge 0x02000500010002000000e8d4a51001 []), 5 ∷ 166 ∷ 5 ∷ 5 ∷ 5 ∷ 0 ∷ []) ∷
+    (crowded (line 29 0x02000500010002000000000000000 []), 1 ∷ 166 ∷ 5 ∷ 5 ∷ 5 ∷ 0 ∷ []) ∷
+    (crowded (last ++ (48 ∷ [])), 1 ∷ 197 ∷ 6 ∷ 5 ∷ 6 ∷ 1 ∷ []) ∷
     -- the first frame, and the head
     (line 10 0x0100030000 [], 1 ∷ 11 ∷ 0 ∷ 0 ∷ 0 ∷ 0 ∷ []) ∷
     (line 10 0x0100030006 [], 3 ∷ 0 ∷ 0 ∷ 0 ∷ 0 ∷ 0 ∷ []) ∷ []

@@ -3,7 +3,7 @@
 use mathlib.Core.Path.{_≡_, refl}
 use mathlib.Core.List.{List, [], _∷_, _++_, map}
 use Prim.Native.Nat.{ℕ}
-use lib.IntN.{pos}
+use lib.IntN.{pos, negsuc}
 use Rattle.base.specs.Answer.{answer, andThen, unless, refusalOf}
 use Rattle.frame.specs.Table.{kindOf, padded, bytesOf, total, placeOf, startOf, digitsOf, widths, lineLength}
 use Rattle.digits.specs.Hexadecimal.{valueOf, digitOf, allDigits, numberOf, spell}
@@ -23,17 +23,18 @@ abbrev head : ℕ → List ℕ → List ℕ
 head = line 10
 
 abbrev edge : ℕ → List ℕ → List ℕ
-edge = line 22
+edge = line 30
 
 -- the edges of the printed network, but for the last one
 abbrev most : List ℕ → List ℕ
 most rest =
-    edge 0x0200000000000100000007
-    (edge 0x0200010000000100000004
-    (edge 0x0200020000000200000001 (edge 0x0200030000000200000002 (edge 0x0200040001000200000006 rest))))
+    edge 0x020000000000010000000000000007
+    (edge 0x020001000000010000000000000004
+    (edge 0x020002000000020000000000000001
+    (edge 0x020003000000020000000000000002 (edge 0x020004000100020000000000000006 rest))))
 
 abbrev last : List ℕ
-last = edge 0x0200050001000200000003 []
+last = edge 0x020005000100020000000000000003 []
 
 -- the text that document 01 prints, and its meaning
 abbrev pub printed : List ℕ
@@ -49,6 +50,24 @@ meaning =
       cost = pos 7 ∷ pos 4 ∷ pos 1 ∷ pos 2 ∷ pos 6 ∷ pos 3 ∷ [];
     }
 
+-- costs at both limits, and costs whose sign is not that of their lower four bytes
+abbrev pub signed : List ℕ
+signed =
+    head 0x0100020000
+    (edge 0x02000000000001000000e8d4a51000
+    (edge 0x02000100000001ffffff172b5af000
+    (edge 0x0200020000000100000000ffffffff (edge 0x02000300000001ffffffff00000000 []))))
+
+abbrev pub signed-meaning : Meaning
+signed-meaning =
+    record {
+      vertices = 2;
+      reserved = 0;
+      low = 0 ∷ 0 ∷ 0 ∷ 0 ∷ [];
+      high = 1 ∷ 1 ∷ 1 ∷ 1 ∷ [];
+      cost = pos 1000000000000 ∷ negsuc 999999999999 ∷ pos 4294967295 ∷ negsuc 4294967295 ∷ [];
+    }
+
 -- texts near it, each with the number of its refusal, or 0 where it is read
 abbrev pub cases : List (List ℕ × ℕ)
 cases =
@@ -56,8 +75,9 @@ cases =
     -- how many vertices: the lowest number, and the numbers beyond the limits
     (
       head 0x0100020003
-          (edge 0x0200000000000100000005
-          (edge 0x02000100000001ffffffff (edge 0x0200020000000100000003 (edge 0x0200030000000100000003 [])))),
+          (edge 0x020000000000010000000000000005
+          (edge 0x02000100000001ffffffffffffffff
+          (edge 0x020002000000010000000000000003 (edge 0x020003000000010000000000000003 [])))),
       0,
     ) ∷
     (head 0x0100010000 [], 2) ∷
@@ -66,39 +86,48 @@ cases =
     (head 0x0100030005 (most last), 0) ∷
     (head 0x0100030006 (most last), 3) ∷
     -- an edge's number, and its ends
-    (head 0x0100030000 (most (edge 0x0200040001000200000003 [])), 4) ∷
-    (head 0x0100030000 (most (edge 0x0200050002000200000003 [])), 4) ∷
-    (head 0x0100030000 (most (edge 0x0200050002000100000003 [])), 4) ∷
-    (head 0x0100030000 (most (edge 0x0200050001000300000003 [])), 4) ∷
-    -- an edge's cost: the limits, and one more
-    (head 0x0100030000 (most (edge 0x020005000100023b9aca00 [])), 0) ∷
-    (head 0x0100030000 (most (edge 0x020005000100023b9aca01 [])), 5) ∷
-    (head 0x0100030000 (most (edge 0x02000500010002c4653600 [])), 0) ∷
-    (head 0x0100030000 (most (edge 0x02000500010002c46535ff [])), 5) ∷
+    (head 0x0100030000 (most (edge 0x020004000100020000000000000003 [])), 4) ∷
+    (head 0x0100030000 (most (edge 0x020005000200020000000000000003 [])), 4) ∷
+    (head 0x0100030000 (most (edge 0x020005000200010000000000000003 [])), 4) ∷
+    (head 0x0100030000 (most (edge 0x020005000100030000000000000003 [])), 4) ∷
+    -- an edge's cost: the limits, one more, and far outside
+    (head 0x0100030000 (most (edge 0x02000500010002000000e8d4a51000 [])), 0) ∷
+    (head 0x0100030000 (most (edge 0x02000500010002000000e8d4a51001 [])), 5) ∷
+    (head 0x0100030000 (most (edge 0x02000500010002ffffff172b5af000 [])), 0) ∷
+    (head 0x0100030000 (most (edge 0x02000500010002ffffff172b5aefff [])), 5) ∷
+    (head 0x0100030000 (most (edge 0x020005000100027fffffffffffffff [])), 5) ∷
+    (head 0x0100030000 (most (edge 0x020005000100028000000000000003 [])), 5) ∷
     -- the first refusal counts: a frame's own numbers before the form of the next, and before bytes left over
     (head 0x0100030006 [], 3) ∷
-    (head 0x0100030000 (edge 0x020000000000017fffffff []), 5) ∷
-    (head 0x0100030000 (most (edge 0x0200050001000380000000 (10 ∷ []))), 4) ∷
-    -- the form: nothing at all, a missing frame, a missing feed, a kind, a
-    -- length, bytes left over, a blank line, a carriage return, upper case
+    (head 0x0100030000 (edge 0x020000000000017fffffffffffffff []), 5) ∷
+    (head 0x0100030000 (most (edge 0x020005000100038000000000000000 (10 ∷ []))), 4) ∷
+    -- the form: nothing at all, a missing frame, a missing feed, a kind, three lengths, the last with four
+    -- bytes for a cost, bytes left over, a blank line, a carriage return, upper case
     ([], 1) ∷
     (head 0x0100030000 (most []), 1) ∷
-    (head 0x0100030000 (most (spell 22 0x0200050001000200000003 [])), 1) ∷
+    (head 0x0100030000 (most (spell 30 0x020005000100020000000000000003 [])), 1) ∷
     (head 0x0200030000 (most last), 1) ∷
-    (head 0x0100030000 (most (edge 0x0300050001000200000003 [])), 1) ∷
-    (head 0x0100030000 (most (line 24 0x020005000100020000000300 [])), 1) ∷
-    (head 0x0100030000 (most (line 21 0x200050001000200000003 [])), 1) ∷
+    (head 0x0100030000 (most (edge 0x030005000100020000000000000003 [])), 1) ∷
+    (head 0x0100030000 (most (line 32 0x02000500010002000000000000000300 [])), 1) ∷
+    (head 0x0100030000 (most (line 29 0x20005000100020000000000000003 [])), 1) ∷
+    (head 0x0100030000 (most (line 22 0x0200050001000200000003 [])), 1) ∷
     (printed ++ (10 ∷ []), 1) ∷
     (printed ++ last, 1) ∷
     (head 0x0100030000 (10 ∷ most last), 1) ∷
-    (head 0x0100030000 (most (spell 22 0x0200050001000200000003 (13 ∷ 10 ∷ []))), 1) ∷
-    (head 0x0100030000 (most (spell 21 0x020005000100020000000 (65 ∷ 10 ∷ []))), 1) ∷ []
+    (head 0x0100030000 (most (spell 30 0x020005000100020000000000000003 (13 ∷ 10 ∷ []))), 1) ∷
+    (head 0x0100030000 (most (spell 29 0x02000500010002000000000000000 (65 ∷ 10 ∷ []))), 1) ∷ []
 
 pub printed-read : readNetwork printed ≡ answer meaning
 unfolding readNetwork edgesOf inFrames framesOf isLine fieldsOf valuesOf numberOf allDigits valueOf digitOf spell
     lineLength startOf placeOf total widths bytesOf padded digitsOf kindOf costDigits signedOf headRefusal edgeRefusal
     verticesOk costOk checked unless andThen meaningOf
 printed-read = refl
+
+pub signed-read : readNetwork signed ≡ answer signed-meaning
+unfolding readNetwork edgesOf inFrames framesOf isLine fieldsOf valuesOf numberOf allDigits valueOf digitOf spell
+    lineLength startOf placeOf total widths bytesOf padded digitsOf kindOf costDigits signedOf headRefusal edgeRefusal
+    verticesOk costOk checked unless andThen meaningOf
+signed-read = refl
 
 pub printed-written : writeNetwork meaning ≡ answer printed
 printed-written = written-read printed meaning printed-read

@@ -24,14 +24,14 @@ abbrev head : ℕ → List ℕ → List ℕ
 head = line 14
 
 abbrev span : ℕ → List ℕ → List ℕ
-span = line 20
+span = line 28
 
 -- three vertices and three spans, of which the last is given
 abbrev three : List ℕ → List ℕ
-three rest = head 0x08000300000003 (span 0x09000000010200000007 (span 0x09000000020200000001 rest))
+three rest = head 0x08000300000003 (span 0x0900000001020000000000000007 (span 0x0900000002020000000000000001 rest))
 
 abbrev last : List ℕ
-last = span 0x09000100020200000003 []
+last = span 0x0900010002020000000000000003 []
 
 -- two edges for each span, numbered on in span order
 abbrev network : Meaning
@@ -49,7 +49,7 @@ abbrev cases : List (List ℕ × ℕ)
 cases =
     (three last, 0) ∷
     -- the reserved edge is one after expansion: the last of six, and none
-    (head 0x08000300050003 (span 0x09000000010200000007 (span 0x09000000020200000001 last)), 0) ∷
+    (head 0x08000300050003 (span 0x0900000001020000000000000007 (span 0x0900000002020000000000000001 last)), 0) ∷
     (head 0x08000300060003 [], 3) ∷
     -- how many vertices, and how many spans: the limit, and one more; 2 and 3 come first
     (head 0x08000100000000 [], 2) ∷
@@ -58,27 +58,33 @@ cases =
     (head 0x08000200040005 [], 3) ∷
     (head 0x08000100000005 [], 2) ∷
     -- a span's ends
-    (three (span 0x09000200020200000003 []), 4) ∷
-    (three (span 0x09000200010200000003 []), 4) ∷
-    (three (span 0x09000100030200000003 []), 4) ∷
+    (three (span 0x0900020002020000000000000003 []), 4) ∷
+    (three (span 0x0900020001020000000000000003 []), 4) ∷
+    (three (span 0x0900010003020000000000000003 []), 4) ∷
     -- its weight: the limits, and one beyond each
-    (head 0x08000200000001 (span 0x09000000010400000005 []), 0) ∷
-    (head 0x08000200000001 (span 0x09000000010500000005 []), 15) ∷
-    (head 0x08000200000001 (span 0x09000000010000000005 []), 15) ∷
+    (head 0x08000200000001 (span 0x0900000001040000000000000005 []), 0) ∷
+    (head 0x08000200000001 (span 0x0900000001050000000000000005 []), 15) ∷
+    (head 0x08000200000001 (span 0x0900000001000000000000000005 []), 15) ∷
     -- its pair: the one before again, and lower ones
-    (three (span 0x09000000020200000003 []), 15) ∷
-    (three (span 0x09000000010200000003 []), 15) ∷
-    (head 0x08000300000002 (span 0x09000100020200000003 (span 0x09000000020200000001 [])), 15) ∷
-    -- its cost: the limit, and one more
-    (three (span 0x0900010002023b9aca00 []), 0) ∷
-    (three (span 0x0900010002023b9aca01 []), 5) ∷
+    (three (span 0x0900000002020000000000000003 []), 15) ∷
+    (three (span 0x0900000001020000000000000003 []), 15) ∷
+    (head 0x08000300000002 (span 0x0900010002020000000000000003 (span 0x0900000002020000000000000001 [])), 15) ∷
+    -- its cost: the limits, one more, and far outside
+    (three (span 0x090001000202000000e8d4a51000 []), 0) ∷
+    (three (span 0x090001000202000000e8d4a51001 []), 5) ∷
+    (three (span 0x090001000202ffffff172b5af000 []), 0) ∷
+    (three (span 0x090001000202ffffff172b5aefff []), 5) ∷
+    (three (span 0x0900010002027fffffffffffffff []), 5) ∷
+    (three (span 0x0900010002028000000000000003 []), 5) ∷
+    -- its length: four bytes for a cost
+    (three (line 20 0x09000100020200000003 []), 1) ∷
     -- of one span 4 comes before 15, and 15 before 5
-    (three (span 0x0900010003003b9aca01 []), 4) ∷
-    (three (span 0x0900010002003b9aca01 []), 15) ∷
+    (three (span 0x090001000300000000e8d4a51001 []), 4) ∷
+    (three (span 0x090001000200000000e8d4a51001 []), 15) ∷
     -- the total: one too low and one too high; bytes left over come first, and a missing span
-    (three (span 0x09000100020100000003 []), 16) ∷
-    (three (span 0x09000100020300000003 []), 16) ∷
-    (three (span 0x09000100020300000003 (10 ∷ [])), 1) ∷
+    (three (span 0x0900010002010000000000000003 []), 16) ∷
+    (three (span 0x0900010002030000000000000003 []), 16) ∷
+    (three (span 0x0900010002030000000000000003 (10 ∷ [])), 1) ∷
     (three last ++ last, 1) ∷
     (three [], 1) ∷
     ([], 1) ∷ []

@@ -1,4 +1,4 @@
--- Table texts and their meanings are one to one, and the longest text has 10,767 bytes.
+-- Table texts and their meanings are one to one, and no text is longer than the longest one.
 -- Assumes nothing.
 use mathlib.Core.Path.{_≡_, refl, sym, _∙_, ap}
 use mathlib.Core.List.{List, [], _∷_, map}

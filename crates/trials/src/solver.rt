@@ -46,7 +46,7 @@ fn network(what: &[u8], text: &[u8]) {
 fn network_short(what: &[u8], text: &[u8]) {
     say(what);
     say(b": ");
-    let mut network = [0u8; 102];
+    let mut network = [0u8; 134];
     match table_network(text, &mut network) {
         Reply::Done(_) => {
             say(b"written\n");
@@ -99,17 +99,17 @@ fn heads() {
     table(b"no table", b"");
     table(
         b"a network for a table",
-        b"0100020000\n0200000000000100000005\n",
+        b"0100020000\n020000000000010000000000000005\n",
     );
     table(b"a table of one cabinet", b"08000100000000\n");
     table(b"a table of 257 cabinets", b"08010100000000\n");
     table(
         b"cable 4 of two cabinets reserved",
-        b"08000200040001\n09000000010400000005\n",
+        b"08000200040001\n0900000001040000000000000005\n",
     );
     table(
         b"cable 3 of two cabinets reserved",
-        b"08000200030001\n09000000010400000005\n",
+        b"08000200030001\n0900000001040000000000000005\n",
     );
     table(b"five spans for two cabinets", b"08000200000005\n");
     table(
@@ -123,84 +123,108 @@ fn heads() {
 fn spans() {
     table(
         b"a span from 1 to 1",
-        b"08000200000001\n09000100010400000005\n",
+        b"08000200000001\n0900010001040000000000000005\n",
     );
     table(
         b"a span from 1 to 0",
-        b"08000200000001\n09000100000400000005\n",
+        b"08000200000001\n0900010000040000000000000005\n",
     );
     table(
         b"a span from 0 to 2",
-        b"08000200000001\n09000000020400000005\n",
+        b"08000200000001\n0900000002040000000000000005\n",
     );
-    table(b"weight 0", b"08000200000001\n09000000010000000005\n");
-    table(b"weight 5", b"08000200000001\n09000000010500000005\n");
+    table(
+        b"weight 0",
+        b"08000200000001\n0900000001000000000000000005\n",
+    );
+    table(
+        b"weight 5",
+        b"08000200000001\n0900000001050000000000000005\n",
+    );
     table(
         b"span 0-1 twice",
-        b"08000200000002\n09000000010200000005\n09000000010200000005\n",
+        b"08000200000002\n0900000001020000000000000005\n0900000001020000000000000005\n",
     );
     table(
         b"span 0-1 behind 0-2",
-        b"08000300000002\n09000000020200000001\n09000000010200000007\n",
+        b"08000300000002\n0900000002020000000000000001\n0900000001020000000000000007\n",
     );
     table(
         b"span 0-2 behind 1-2",
-        b"08000300000002\n09000100020200000003\n09000000020200000001\n",
+        b"08000300000002\n0900010002020000000000000003\n0900000002020000000000000001\n",
     );
 }
 
 // Spans: their costs, and which of several faults counts.
 fn costs() {
     table(
-        b"a span of cost 1,000,000,001",
-        b"08000200000001\n0900000001043b9aca01\n",
+        b"a span of cost 1,000,000,000,001",
+        b"08000200000001\n090000000104000000e8d4a51001\n",
     );
     table(
-        b"a span of cost 1,000,000,000",
-        b"08000200000001\n0900000001043b9aca00\n",
+        b"a span of cost 1,000,000,000,000",
+        b"08000200000001\n090000000104000000e8d4a51000\n",
     );
     table(
-        b"a span of cost -1,000,000,001",
-        b"08000200000001\n090000000104c46535ff\n",
+        b"a span of cost -1,000,000,000,001",
+        b"08000200000001\n090000000104ffffff172b5aefff\n",
     );
     table(
-        b"a span of cost -1,000,000,000",
-        b"08000200000001\n090000000104c4653600\n",
+        b"a span of cost -1,000,000,000,000",
+        b"08000200000001\n090000000104ffffff172b5af000\n",
+    );
+    table(
+        b"a span of the highest cost that eight bytes say",
+        b"08000200000001\n0900000001047fffffffffffffff\n",
+    );
+    table(
+        b"a span of the lowest cost that eight bytes say",
+        b"08000200000001\n0900000001048000000000000000\n",
     );
     table(
         b"ends, weight and cost wrong",
-        b"08000200000001\n0900000002053b9aca01\n",
+        b"08000200000001\n090000000205000000e8d4a51001\n",
     );
     table(
         b"weight and cost wrong",
-        b"08000200000001\n0900000001053b9aca01\n",
+        b"08000200000001\n090000000105000000e8d4a51001\n",
     );
 }
 
 // What is told behind the last span: bytes left over, the total, the network.
 fn totals() {
-    table(b"a total of 3", b"08000200000001\n09000000010300000005\n");
+    table(
+        b"a total of 3",
+        b"08000200000001\n0900000001030000000000000005\n",
+    );
     table(
         b"a total of 5",
-        b"08000300000002\n09000000010400000005\n09000000020100000005\n",
+        b"08000300000002\n0900000001040000000000000005\n0900000002010000000000000005\n",
     );
     table(
         b"a total of 7",
-        b"08000300000002\n09000000010400000005\n09000000020300000005\n",
+        b"08000300000002\n0900000001040000000000000005\n0900000002030000000000000005\n",
     );
     table(
         b"a total of 3, and a byte left over",
-        b"08000200000001\n09000000010300000005\n0",
+        b"08000200000001\n0900000001030000000000000005\n0",
     );
-    table(b"a span cut off", b"08000200000001\n0900000001040000000");
+    table(
+        b"a span with four bytes for a cost",
+        b"08000200000001\n09000000010400000005\n",
+    );
+    table(
+        b"a span cut off",
+        b"08000200000001\n090000000104000000000000000",
+    );
     table(
         b"0-1 three times, 0-2 twice, 1-2, as spans",
-        b"08000300000003\n09000000010300000001\n09000000020200000001\n09000100020100000001\n",
+        b"08000300000003\n0900000001030000000000000001\n0900000002020000000000000001\n0900010002010000000000000001\n",
     );
     table(
         b"0-1 three times, 0-2, 1-3, 2-3 three times, as spans",
-        b"08000400000004\n09000000010300000001\n09000000020100000001\n09000100030100000001\n\
-            09000200030300000001\n",
+        b"08000400000004\n0900000001030000000000000001\n0900000002010000000000000001\n0900010003010000000000000001\n\
+            0900020003030000000000000001\n",
     );
 }
 
@@ -209,23 +233,23 @@ pub fn run() {
     spans();
     costs();
     totals();
-    let pair = b"08000200000001\n09000000010400000005\n";
+    let pair = b"08000200000001\n0900000001040000000000000005\n";
     let triangle =
-        b"08000300000003\n09000000010200000007\n09000000020200000001\n09000100020200000003\n";
+        b"08000300000003\n0900000001020000000000000007\n0900000002020000000000000001\n0900010002020000000000000003\n";
     table(b"two cabinets and one span", pair);
     network(b"its network", pair);
-    network_short(b"its network in 102 bytes", pair);
+    network_short(b"its network in 134 bytes", pair);
     plan(b"its plan", pair);
     plan_short(b"its plan in 48 bytes", pair);
     plan(
         b"the plan of four cables at -1",
-        b"08000200000001\n090000000104ffffffff\n",
+        b"08000200000001\n090000000104ffffffffffffffff\n",
     );
     table(b"three cabinets and three spans", triangle);
     network(b"their network", triangle);
     plan(b"their plan", triangle);
     network(
         b"the network of the table with 0-1 three times, 0-2 twice, 1-2",
-        b"08000300000003\n09000000010300000001\n09000000020200000001\n09000100020100000001\n",
+        b"08000300000003\n0900000001030000000000000001\n0900000002020000000000000001\n0900010002010000000000000001\n",
     );
 }
