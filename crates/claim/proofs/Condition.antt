@@ -11,6 +11,7 @@ use lib.Dec.{eqb}
 use lib.ListN.{length}
 use borrow.Author.Tests.{eq-eqb}
 use Rattle.base.proofs.Bools.{no-answer, same-test}
+use Rattle.base.proofs.LimitLaws.{sums-far}
 use Rattle.base.specs.Answer.{Answer, refused as refusedBy, answer, andThen, refused}
 use Rattle.base.specs.Refusals.{SHORT}
 use Rattle.base.specs.declared.reply.Reply.the-variants.{Refused}
@@ -21,6 +22,7 @@ use Rattle.network_text.proofs.Meaning.{read-valid}
 use Rattle.loading.specs.Known.{Known}
 use Rattle.loading.specs.Loading.{stateOf, networkOf}
 use Rattle.loading.proofs.Meanings.{loaded-formed}
+use Rattle.loading.proofs.Reading.{known-weight}
 use Rattle.kept_text.specs.Text.{keptEdges, keptText}
 use Rattle.base.specs.Fold.{among, pick}
 use Rattle.graph.specs.Network.{endsAt, degree, kept, keptCost, allButReserved}
@@ -33,7 +35,8 @@ use Rattle.base.proofs.Picks.{pick-among, among-pick}
 use Rattle.graph.proofs.EveryCut.{every-cut-complete}
 use Rattle.graph.proofs.Checking.{passes-ruled}
 use Rattle.graph.proofs.Backs.{back-good, back-below, check-back, back-check}
-use Rattle.graph.proofs.Condition.{plan-checked}
+use Rattle.graph.proofs.Condition.{plan-checked, working-costs}
+use Rattle.costs.proofs.Totals.{kept-weight, reserved-weight}
 use Rattle.rules.specs.Running.{Running}
 use Rattle.claim.specs.Verdicts.{checkChain}
 use Rattle.claim.specs.Plans.{planChain}
@@ -200,6 +203,9 @@ module _ {t : List ℕ} {g : Network} (a : Accepted t g) where
   running : Running g
   running = accepted-running t g (accepts a)
 
+  known : Known g
+  known = accepted-whole t g (accepts a) .known
+
   -- the bytes of a check that answers keep the rules, and its text is that of what going back gives
   answers-ruled : (chain text : List ℕ) → checkChainText t chain ≡ answer text
       → (K : List Bool) × Ruled g chain K × (text ≡ keptTextOf g K)
@@ -307,7 +313,7 @@ claim = record {
     λ r. ruled-answers a (r .1) ∙ ap answer (text-of g (r .0) ∙ sym (r .2)),
   );
   one = λ a r s. one-set (running a) r s;
-  owed = λ {t} {g} a r. ruled-owed (running a) (accepted-whole t g (accepts a) .known .fresh) r;
+  owed = λ a r. ruled-owed (running a) (known a .fresh) r;
   short = λ {t} a chain lent.
       (short-ruled a chain lent, λ r. sym (short (checkChainText t chain) lent _ (ruled-answers a (r .1)) (r .2) .0));
   written = λ {t} {g} a {chain} {K} r lent l. let w =
@@ -321,4 +327,8 @@ claim = record {
   );
   network-refusals = λ t k e. let w = accept-numbered t .number k e in (omega (arith, w .0), w .1);
   chain-refusals = λ {t} {g} a chain k e. chain-meets t chain g k (accepts a) e;
+  working = λ a l e k. omega (arith, known-weight (known a), working-costs (running a .sound) l e k);
+  sums = λ {g = g} a K. let w =
+      known-weight (known a) in (omega (arith, w, kept-weight g K), omega (arith, w, reserved-weight g));
+  far = omega (arith, sums-far);
 }

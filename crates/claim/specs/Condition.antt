@@ -4,11 +4,12 @@ use mathlib.Core.Bool.{Bool, true, false}
 use mathlib.Core.List.{List, [], _∷_, map}
 use mathlib.Core.Logic.{_↔_, _⊎_}
 use mathlib.Core.Path.{_≡_}
-use Prim.Native.Nat.{ℕ, _≤_, _<_}
+use Prim.Native.Nat.{ℕ, _*_, _^_, _≤_, _<_}
 use lib.ListN.{length}
-use lib.IntN.{pos, _*ℤ_}
+use lib.IntN.{pos, natAbs, _*ℤ_}
 use lib.Signed.{_≤ℤ_}
 use Rattle.base.specs.Answer.{refused, answer, over}
+use Rattle.base.specs.Limits.{edgeLimit, costLimit}
 use Rattle.base.specs.Refusals.{SHORT}
 use Rattle.base.specs.declared.reply.Reply.{Reply}
 use Rattle.base.specs.declared.reply.Reply.the-variants.{Refused, Done}
@@ -17,9 +18,9 @@ use Rattle.chain_text.specs.Text.{chainText}
 use Rattle.kept_text.specs.Text.{keptEdges, keptText}
 use Rattle.loading.specs.Loading.{networkOf}
 use Rattle.base.specs.Fold.{among}
-use Rattle.graph.specs.Network.{degree, kept, keptCost, allButReserved}
+use Rattle.graph.specs.Network.{costOf, degree, kept, keptCost, allButReserved}
 use Rattle.graph.specs.Cut.{Side, crossingsOf}
-use Rattle.graph.specs.Chain.{ByRules}
+use Rattle.graph.specs.Chain.{ByRules, Leads}
 use Rattle.graph.specs.Back.{Back}
 use Rattle.graph.specs.declared.Network.{Network}
 use Rattle.graph.specs.declared.Step.{Step}
@@ -150,6 +151,14 @@ pub record Claim : Type 0 where
   pub chain-refusals : {t : List ℕ} {g : Network} → Accepted t g → (chain : List ℕ) (k : ℕ)
       → checkChainText t chain ≡ refused k
       → (k ≡ 1) ⊎ ((8 ≤ k) × (k ≤ 12))
+  -- 'A working cost is never outside' 512 times the limit of a cost, on either side, wherever steps by rule lead
+  pub working : {t : List ℕ} {g : Network} → Accepted t g → {ts : List Step} {h : Network} → Leads g ts h
+      → (e : ℕ) → e < h .edges → natAbs (costOf h e) ≤ edgeLimit * costLimit
+  -- nor is a sum of costs, whichever edges are kept
+  pub sums : {t : List ℕ} {g : Network} → Accepted t g → (K : List Bool)
+      → (natAbs (keptCost g K) ≤ edgeLimit * costLimit) × (natAbs (allButReserved g) ≤ edgeLimit * costLimit)
+  -- and three times that, as the ratio takes it, is far from 64 bits
+  pub far : 3 * (edgeLimit * costLimit) < 2 ^ 51
 
 -- ── wrong programs that the claim, or a promise by its words, shuts out: each has a must-fail edit ──
 --
@@ -164,3 +173,4 @@ pub record Claim : Type 0 where
 -- turns down every network                                 `accepted`         every_network_refused, crate thinning
 -- calls a buffer short before measuring the text           `planned`          short_before_measuring, crate thinning
 -- writes nothing and reports success                       `planned`          nothing_written
+-- bounds working costs by a lower limit of a cost          `working`          working_costs_without_trunks

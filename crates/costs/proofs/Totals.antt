@@ -39,11 +39,12 @@ module _ (g : Network) (K : List Bool) where
   unfolding costOver
   among-all = refl
 
--- the cost of any of the first edges is small
-module _ (g : Network) (light : Light g) where
-  over-small : (p : ℕ → Bool) (e : ℕ) → e ≤ g .edges → natAbs (sumℤ e (λ i. cond (p i) (costOf g i) (pos 0))) < 2 ^ 62
+-- the cost of any of the first edges is no further from 0 than the sum of all costs' sizes
+module _ (g : Network) where
+  over-weight : (p : ℕ → Bool) (e : ℕ) → e ≤ g .edges
+      → natAbs (sumℤ e (λ i. cond (p i) (costOf g i) (pos 0))) ≤ weight g
   unfolding weight
-  over-small p e l =
+  over-weight p e l =
       omega (
         arith,
         sumℤ-size e (λ i. cond (p i) (costOf g i) (pos 0)),
@@ -56,16 +57,24 @@ module _ (g : Network) (light : Light g) where
       less true c = omega arith
       less false c = omega arith
 
+  pub kept-weight : (K : List Bool) → natAbs (keptCost g K) ≤ weight g
+  unfolding costOver
+  kept-weight K = over-weight (kept K) (g .edges) (omega arith)
+
+  pub reserved-weight : natAbs (allButReserved g) ≤ weight g
+  unfolding costOver
+  reserved-weight = over-weight (λ e. not (eqb e (g .reserved))) (g .edges) (omega arith)
+
+-- so in a light network it is small
+module _ (g : Network) (light : Light g) where
   pub among-small : (K : List Bool) (e : ℕ) → e ≤ g .edges → natAbs (costAmong g K e) < 2 ^ 62
-  among-small K = over-small (kept K)
+  among-small K e l = omega (arith, over-weight g (kept K) e l)
 
   pub kept-small : (K : List Bool) → natAbs (keptCost g K) < 2 ^ 62
-  unfolding costOver
-  kept-small K = over-small (kept K) (g .edges) (omega arith)
+  kept-small K = omega (arith, kept-weight g K)
 
   pub reserved-small : natAbs (allButReserved g) < 2 ^ 62
-  unfolding costOver
-  reserved-small = over-small (λ e. not (eqb e (g .reserved))) (g .edges) (omega arith)
+  reserved-small = omega (arith, reserved-weight g)
 
 -- n marks but the reserved one
 pub all-marks : (n : ℕ) (g : Network) → g .edges ≤ n → g .reserved < n

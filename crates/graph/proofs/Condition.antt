@@ -3,14 +3,12 @@ use mathlib.Core.Path.{_≡_, refl, sym, _∙_, ap}
 use mathlib.Core.Logic.{inl}
 use mathlib.Core.Bool.{Bool, true, false, cond}
 use mathlib.Core.List.{List, _∷_}
-use Prim.Native.Nat.{ℕ, zero, suc, _+_, _-_, _*_, _≤_, _<_}
+use Prim.Native.Nat.{ℕ, zero, suc, _+_, _-_, _≤_, _<_}
 use native.Mathlib.Omega.{arith}
-use native.Mathlib.Nat.{mul-le-mul-right}
 use lib.Dec.{eqb}
 use lib.IntN.{natAbs}
 use borrow.Author.Tests.{eq-eqb, lt-ltb}
 use Rattle.base.specs.Answer.{answer, unless}
-use Rattle.base.specs.Limits.{edgeLimit}
 use Rattle.base.specs.Fold.{bit}
 use Rattle.graph.specs.Network.{lowEnd, highEnd, costOf, here, degree}
 use Rattle.graph.specs.Cut.{everyCut, fourEach, networkRefusal}
@@ -22,7 +20,7 @@ use Rattle.graph.specs.Condition.{Condition}
 use Rattle.graph.specs.declared.Network.{Network}
 use Rattle.graph.specs.declared.Step.{Step}
 use Rattle.base.proofs.Bools.{never, eqb-is}
-use Rattle.base.proofs.Sums.{sum-ext, sum-ones, sum-bound, term-le, each-at}
+use Rattle.base.proofs.Sums.{sum-ext, sum-ones, term-le, each-at}
 use Rattle.graph.proofs.EveryCut.{every-cut-sound}
 use Rattle.graph.proofs.Lifting.{weight-after}
 use Rattle.graph.proofs.Rules.{ruled-step, Stepped, stepped, sound-step, sound-either}
@@ -118,14 +116,9 @@ weight-falls {g} {ts = t ∷ ts} sound (goes more r l) =
     once : Stepped g t → weight (after g t) ≤ weight g
     once w = unfold after in weight-after (sound .formed) (w .at)
 
--- a working cost is never outside edgeLimit times the limit of the network's own costs: it is at most the weight,
--- which was at most the limit for each edge at the start
-pub working-costs : (limit : ℕ) {g h : Network} {ts : List Step} → Sound g → g .edges ≤ edgeLimit
-    → ((e : ℕ) → e < g .edges → natAbs (costOf g e) ≤ limit) → Leads g ts h → (e : ℕ) → e < h .edges
-    → natAbs (costOf h e) ≤ edgeLimit * limit
+-- so no working cost is further from 0 than the network's own costs are together
+pub working-costs : {g h : Network} {ts : List Step} → Sound g → Leads g ts h → (e : ℕ) → e < h .edges
+    → natAbs (costOf h e) ≤ weight g
 unfolding weight
-working-costs limit {g} {h} sound few small l e k =
-    let w = weight-falls sound l in
-    let a = term-le (h .edges) (λ e. natAbs (costOf h e)) e k in
-    let b = sum-bound (g .edges) limit (λ e. natAbs (costOf g e)) small in
-    omega (arith, a, b, w .0, mul-le-mul-right limit few)
+working-costs {h = h} sound l e k =
+    omega (arith, weight-falls sound l .0, term-le (h .edges) (λ e. natAbs (costOf h e)) e k)

@@ -1,16 +1,18 @@
 -- What is known of a network that was loaded, from its text or as an answer.
 use mathlib.Core.Path.{_≡_, refl, sym, _∙_, ap}
 use mathlib.Core.List.{List}
-use Prim.Native.Nat.{ℕ, _≤_, _<_}
+use Prim.Native.Nat.{ℕ, _*_, _≤_, _<_}
 use native.Mathlib.Omega.{arith}
+use native.Mathlib.Nat.{mul-le-mul-right}
 use lib.ListN.{replicate}
 use lib.IntN.{natAbs}
 use Rattle.base.specs.Answer.{Answer, refused, answer, andThen}
 use Rattle.base.specs.Fold.{fold, tabulate}
-use Rattle.base.specs.Limits.{vertexLimit, costLimit}
+use Rattle.base.specs.Limits.{vertexLimit, edgeLimit, costLimit}
 use Rattle.base.specs.Refusals.{COST}
 use Rattle.base.proofs.Answers.{unless-refused, unless-next, unless-answered}
 use Rattle.base.proofs.Bools.{no-answer}
+use Rattle.base.proofs.LimitLaws.{sums-far}
 use Rattle.base.proofs.Numbered.{Numbered, answered, unless-numbered, then-meeting}
 use Rattle.base.proofs.Sums.{sum-bound}
 use Rattle.graph.specs.Network.{costOf, degree}
@@ -38,11 +40,19 @@ known-of {m} v = record {
   long = low-long v;
 }
 
--- the sizes of a known network's costs sum to less than 2 to the power 62
-pub known-light : {g : Network} → Known g → Light g
+-- the sizes of a known network's costs sum to at most the limit for each edge that a network may have
+pub known-weight : {g : Network} → Known g → weight g ≤ edgeLimit * costLimit
 unfolding weight
-known-light {g} k =
-    omega (arith, sum-bound (g .edges) costLimit (λ e. natAbs (costOf g e)) (k .within), k .edge-room)
+known-weight {g} k =
+    omega (
+      arith,
+      sum-bound (g .edges) costLimit (λ e. natAbs (costOf g e)) (k .within),
+      mul-le-mul-right costLimit (k .edge-room),
+    )
+
+-- so they are far from 64 bits
+pub known-light : {g : Network} → Known g → Light g
+known-light k = omega (arith, known-weight k, sums-far)
 
 -- the meaning that was read
 pub loaded-read : (t : List ℕ) (g : Network) → loadNetwork t ≡ answer g

@@ -2,10 +2,12 @@
 use mathlib.Core.Path.{_≡_, refl, sym, _∙_, ap}
 use mathlib.Core.Bool.{Bool}
 use mathlib.Core.List.{List}
-use Prim.Native.Nat.{ℕ, _-_}
-use lib.IntN.{pos, _*ℤ_}
+use Prim.Native.Nat.{ℕ, _-_, _*_, _≤_}
+use native.Mathlib.Omega.{arith}
+use lib.IntN.{pos, natAbs, _*ℤ_}
 use lib.Signed.{_≤ℤ_}
 use Rattle.base.specs.Answer.{Answer, refused, answer, andThen, filled}
+use Rattle.base.specs.Limits.{edgeLimit, costLimit}
 use Rattle.base.proofs.Answers.{then-refused, then-answer, unless-answered, filled-refused}
 use Rattle.base.proofs.Bools.{no-answer}
 use Rattle.graph.specs.Network.{keptCost, allButReserved}
@@ -15,6 +17,7 @@ use Rattle.graph.specs.declared.Network.{Network}
 use Rattle.kept_text.specs.Text.{costsIn, keptEdges, keptText}
 use Rattle.kept_text.proofs.Texts.{costs-read}
 use Rattle.loading.specs.Loading.{networkOf}
+use Rattle.loading.proofs.Reading.{known-weight}
 use Rattle.costs.proofs.Totals.{kept-small, reserved-small}
 use Rattle.table_text.specs.Text.{Table, readTable, standsFor}
 use Rattle.table_text.proofs.Meaning.{parts, expanded-meeting}
@@ -29,9 +32,10 @@ use Rattle.claim.proofs.Accepting.{accepted-running}
 use Rattle.tables.specs.Services.{acceptTable, planTable, tablePlanGiven, tableNetwork, loadTable}
 use Rattle.tables.specs.Services.{tablePlanReply, tablePlannedChain, tablePlannedKept}
 use Rattle.tables.specs.Condition.{weightedCost, NoneBelowZero, PlannedAs, TableClaim}
-use Rattle.tables.proofs.Same.{table-written, refused-of-table, accept-same, plan-same, given-same}
+use Rattle.tables.proofs.Same.{table-known, table-written, refused-of-table, accept-same, plan-same}
+use Rattle.tables.proofs.Same.{given-same}
 use Rattle.tables.proofs.Same.{accept-refused, plan-refused, given-refused, load-read}
-use Rattle.tables.proofs.Costs.{reserved-less, ratio-up, cost-room}
+use Rattle.tables.proofs.Costs.{weighted-size, reserved-less, ratio-up, cost-room}
 
 -- ── a table and its network text ──
 same-check : (t : List ℕ) → acceptTable t ≡ andThen (tableNetwork t) acceptNetwork
@@ -156,6 +160,12 @@ four-thirds t m p x e h =
     rw (kept-cost g (w .marks) (p .kept) light (w .kept-is))
     (ratio-up (keptCost g (w .marks)) (allButReserved g) (weightedCost (m .spans)) (w .owed .ratio) all)
 
+-- the network that a table stands for is known, so its costs are within their limit
+bounded : (t : List ℕ) (m : Table) → readTable t ≡ answer m → natAbs (weightedCost (m .spans)) ≤ edgeLimit * costLimit
+bounded t m x =
+    let known = table-known t _ (load-read t (standsFor m) (expanded-read t x)) in
+    omega (arith, known-weight known, weighted-size m (parts t m x .total))
+
 pub table-claim : TableClaim
 table-claim =
     record {
@@ -170,4 +180,5 @@ table-claim =
       accepted = λ t g. (network-of t g, accepted-by t g);
       planned = planned;
       four-thirds = four-thirds;
+      bounded = bounded;
     }

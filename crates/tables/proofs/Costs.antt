@@ -2,7 +2,7 @@
 use mathlib.Core.Path.{_≡_, refl, sym, _∙_, ap}
 use mathlib.Core.Bool.{Bool, true, false, cond}
 use mathlib.Core.List.{List, [], _∷_, _++_, map, map-append}
-use Prim.Native.Nat.{ℕ, zero, suc, _+_, _*_, _^_, _<_}
+use Prim.Native.Nat.{ℕ, zero, suc, _+_, _*_, _^_, _≤_, _<_}
 use native.Mathlib.Omega.{arith}
 use native.Mathlib.Nat.{zero-add, suc-add}
 use lib.ListN.{length, drop, getD, length-map, List·getD-append}
@@ -10,13 +10,15 @@ use lib.IntN.{ℤ, pos, natAbs, _+ℤ_, _*ℤ_}
 use lib.Signed.{mag, _≤ℤ_}
 use Rattle.base.specs.Answer.{over}
 use Rattle.base.specs.Fold.{fold, sumℤ}
-use Rattle.base.proofs.Integers.{P, N, plus, times-P, times-N, eqℤ, ≤ℤ-is, is-≤ℤ, sumℤ-front, sumℤ-le, mag-within}
+use Rattle.base.proofs.Integers.{P, N, plus, times-P, times-N, eqℤ, ≤ℤ-is, is-≤ℤ, sumℤ-front, sumℤ-le}
+use Rattle.base.proofs.Integers.{sumℤ-size, mag-within}
 use Rattle.base.proofs.Sums.{fold-ext}
 use Rattle.frame.specs.Table.{padded, bytesOf, digitsOf}
 use Rattle.frame.specs.Kinds.{keptDigits, unreservedDigits}
 use Rattle.frame.specs.declared.kinds.Span.{Span}
 use Rattle.frame.specs.declared.kinds.Edge.{Edge}
 use Rattle.graph.specs.Network.{costOf, costOver, unreserved, allButReserved}
+use Rattle.graph.specs.Sound.{weight}
 use Rattle.graph.specs.declared.Network.{Network}
 use Rattle.loading.specs.Loading.{stateOf, noCosts, networkOf}
 use Rattle.network_text.specs.Text.{meaningOf}
@@ -111,6 +113,11 @@ module _ (m : Table) (total : weights (m .spans) ≡ 2 * m .vertices) where
   all-cost =
       fold-ext _+ℤ_ (pos 0) (2 * m .vertices) (costOf g) (λ e. getD column e (pos 0)) cost-at
       ∙ ap (λ (n : ℕ). first n column) (sym total) ∙ expanded-cost 0 (m .spans)
+
+  -- whatever signs the costs have, the sum is no further from 0 than they are together
+  pub weighted-size : natAbs (weightedCost (m .spans)) ≤ weight g
+  unfolding weight networkOf stateOf standsFor meaningOf
+  weighted-size = rw all-cost at (sumℤ-size (2 * m .vertices) (costOf g))
 
   -- without the reserved edge's cost the sum is no greater, if no cost is below zero
   pub reserved-less : NoneBelowZero (m .spans) → allButReserved g ≤ℤ weightedCost (m .spans)

@@ -4,11 +4,12 @@ use mathlib.Core.Bool.{Bool}
 use mathlib.Core.List.{List, [], _∷_, _++_}
 use mathlib.Core.Logic.{_↔_, _⊎_}
 use mathlib.Core.Path.{_≡_}
-use Prim.Native.Nat.{ℕ, _+_, _≤_, _<_}
+use Prim.Native.Nat.{ℕ, _+_, _*_, _≤_, _<_}
 use lib.ListN.{length, getD}
-use lib.IntN.{ℤ, pos, _+ℤ_, _*ℤ_}
+use lib.IntN.{ℤ, pos, natAbs, _+ℤ_, _*ℤ_}
 use lib.Signed.{_≤ℤ_}
 use Rattle.base.specs.Answer.{refused, answer, andThen}
+use Rattle.base.specs.Limits.{edgeLimit, costLimit}
 use Rattle.frame.specs.declared.kinds.Edge.{Edge}
 use Rattle.frame.specs.declared.kinds.Span.{Span}
 use Rattle.network_text.specs.Text.{networkText}
@@ -86,6 +87,9 @@ pub record TableClaim : Type 0 where
   pub four-thirds : (t : List ℕ) (m : Table) (p : Texts) → readTable t ≡ answer m → planTable t ≡ answer p
       → NoneBelowZero (m .spans)
       → (pos 3 *ℤ costsIn (p .kept) .kept) ≤ℤ (pos 2 *ℤ weightedCost (m .spans))
+  -- whatever signs the costs have, that sum is no further from 0 than 512 times the limit of a cost
+  pub bounded : (t : List ℕ) (m : Table) → readTable t ≡ answer m
+      → natAbs (weightedCost (m .spans)) ≤ edgeLimit * costLimit
 
 -- ── wrong programs and definitions that the claim, or a promise by its words, shuts out: each has a must-fail edit ──
 --
