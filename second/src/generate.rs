@@ -14,7 +14,7 @@ mod rng;
 mod tables;
 
 pub use chains::{aimed_chain, chain_by_rule, changed_chain, Aim, Aimed};
-pub use costs::CostStyle;
+pub use costs::{CostAim, CostStyle};
 pub use crowded::{crowded_network, faulty_text, Crowd, FrameFault, FEWEST_CROWDING};
 pub use damage::{damage, Damage};
 pub use lists::{aimed_list, broken_list, list, list_of, ListStyle};

@@ -297,7 +297,7 @@ fn wrong_form(rng: &mut Rng, aim: TableAim, mut table: Table) -> Vec<u8> {
                 b"\r\n",
                 b"\0",
                 b"08000200000001\n",
-                b"09000000010400000000\n",
+                b"0900000001040000000000000000\n",
             ];
             text.extend_from_slice(rng.pick(&behind));
             text
