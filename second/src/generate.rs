@@ -11,6 +11,7 @@ mod meanings;
 mod networks;
 mod pages;
 mod rng;
+mod shapes;
 mod tables;
 
 pub use chains::{aimed_chain, chain_by_rule, changed_chain, Aim, Aimed};
@@ -25,4 +26,5 @@ pub use networks::{
 };
 pub use pages::PrintedCosts;
 pub use rng::Rng;
+pub use shapes::{EDGE_AS_SPAN, NARROW_EDGE, NARROW_SPAN, SPAN_AS_EDGE};
 pub use tables::{aimed_table, loose_table, table, table_of, table_text, TableAim};
