@@ -21,10 +21,10 @@ pub use damage::{damage, Damage};
 pub use lists::{aimed_list, broken_list, list, list_of, ListStyle};
 pub use meanings::{chain_columns, list_meaning, network_columns, ChainColumns, NetworkColumns};
 pub use networks::{
-    aimed_network, broken_network, dress, loose_network, network, network_of, size, text, Family,
-    NetworkAim, Shapeless,
+    aimed_network, broken_network, dress, frames, loose_network, network, network_of, size, text,
+    Family, NetworkAim, Shapeless,
 };
 pub use pages::PrintedCosts;
 pub use rng::Rng;
 pub use shapes::{EDGE_AS_SPAN, NARROW_EDGE, NARROW_SPAN, SPAN_AS_EDGE};
-pub use tables::{aimed_table, loose_table, table, table_of, table_text, TableAim};
+pub use tables::{aimed_table, loose_table, table, table_frames, table_of, table_text, TableAim};

@@ -5,7 +5,7 @@ use super::damage::break_line;
 use super::shapes::{EDGE_AS_SPAN, NARROW_EDGE};
 use super::{damage, CostStyle, Rng};
 use crate::cuts::Multigraph;
-use crate::lines::{EDGE, HEAD};
+use crate::lines::{Shape, EDGE, HEAD};
 use crate::refusal::{
     Refusal, BAD_COST, BAD_EDGE, BAD_RESERVED, BAD_VERTEX_COUNT, BROKEN_TEXT, NOT_FOUR_REGULAR,
     SMALL_CUT,
@@ -394,6 +394,21 @@ pub fn text(network: &Network) -> Vec<u8> {
     write_network(network).expect("generated networks keep the limits")
 }
 
+/// The frames of a network, whatever its numbers.
+pub fn frames(network: &Network) -> Vec<u8> {
+    frames_of(network, EDGE)
+}
+
+/// The frames of a network with edges of this shape, which has the low bytes of their numbers.
+fn frames_of(network: &Network, shape: Shape<4>) -> Vec<u8> {
+    let mut text = Vec::new();
+    HEAD.write(head_fields(network), &mut text);
+    for place in 0..network.edges.len() {
+        shape.write(edge_fields(network, place), &mut text);
+    }
+    text
+}
+
 /// A fault of a network's numbers, or of the fields of its frames, to aim at.
 #[derive(Clone, Copy, Debug, PartialEq, Eq)]
 pub enum NetworkAim {
@@ -409,7 +424,7 @@ pub enum NetworkAim {
     EndOrder,
     /// A cost beyond a limit.
     Cost,
-    /// The cost of one edge in four bytes.
+    /// The cost of one edge in four bytes, of the others in eight.
     NarrowCost,
     /// The costs of all edges in four bytes.
     NarrowCosts,
@@ -461,7 +476,7 @@ pub fn aimed_network(rng: &mut Rng, aim: NetworkAim, vertices: usize) -> (Vec<u8
             let shape = rng.pick(&[Shapeless::TwoAcross, Shapeless::Islands]);
             shapeless(rng, shape, vertices)
         }
-        NetworkAim::NarrowCosts => narrow_costs(&network(rng, vertices)),
+        NetworkAim::NarrowCosts => frames_of(&network(rng, vertices), NARROW_EDGE),
         _ => {
             let network = network(rng, vertices);
             faulty_frame(rng, aim, &network)
@@ -475,16 +490,6 @@ fn shapeless(rng: &mut Rng, shape: Shapeless, vertices: usize) -> Vec<u8> {
     let graph = shape.multigraph(rng, vertices);
     let style = rng.pick(&CostStyle::ALL);
     text(&dress(rng, &graph, style))
-}
-
-/// The frames of a network with costs of four bytes, the low ones of its own costs.
-fn narrow_costs(network: &Network) -> Vec<u8> {
-    let mut text = Vec::new();
-    HEAD.write(head_fields(network), &mut text);
-    for place in 0..network.edges.len() {
-        NARROW_EDGE.write(edge_fields(network, place), &mut text);
-    }
-    text
 }
 
 /// The text of a network with a fault in its head or in any edge's frame.

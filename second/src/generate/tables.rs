@@ -111,7 +111,7 @@ pub enum TableAim {
     BrokenLine,
     /// A head or a span with the kind of another frame.
     WrongKind,
-    /// The cost of one span in four bytes.
+    /// The cost of one span in four bytes, of the others in eight.
     NarrowCost,
     /// The costs of all spans in four bytes.
     NarrowCosts,
@@ -189,7 +189,11 @@ impl TableAim {
     /// The fewest vertices for which the fault can be had.
     fn fewest_vertices(self) -> usize {
         match self {
-            TableAim::EqualPair | TableAim::FallingPair | TableAim::TotalHigh => 3,
+            // From here on there are several spans, none of them of the most weight.
+            TableAim::EqualPair
+            | TableAim::FallingPair
+            | TableAim::TotalHigh
+            | TableAim::NarrowCost => 3,
             // From here on there are as many pairs of vertices as edges.
             TableAim::LargeTotal => 5,
             _ => 2,
@@ -220,7 +224,7 @@ pub fn aimed_table(rng: &mut Rng, aim: TableAim, vertices: usize) -> (Vec<u8>, R
         }
         TableAim::NoSpans | TableAim::TotalLow | TableAim::TotalHigh | TableAim::LargeTotal => {
             let table = wrong_total(rng, aim, table);
-            frames(&table, table.spans.len())
+            table_frames(&table)
         }
         TableAim::Degree => shapeless(rng, Shapeless::MovedEnd, vertices),
         TableAim::Cut => {
@@ -276,7 +280,7 @@ fn wrong_span(rng: &mut Rng, aim: TableAim, mut table: Table) -> Vec<u8> {
     if aim == TableAim::Cost || rng.once_in(3) {
         spans[place].cost = beyond_limits(rng);
     }
-    let text = frames(&table, table.spans.len());
+    let text = table_frames(&table);
     damaged_behind(rng, text, lengths::table_text(place + 1))
 }
 
@@ -306,7 +310,7 @@ fn wrong_form(rng: &mut Rng, aim: TableAim, mut table: Table) -> Vec<u8> {
             if rng.once_in(2) {
                 table = wrong_total(rng, TableAim::TotalLow, table);
             }
-            let mut text = frames(&table, table.spans.len());
+            let mut text = table_frames(&table);
             let behind = [
                 &b"\n"[..],
                 b"0",
@@ -375,6 +379,11 @@ fn lowest_spans(vertices: usize, count: usize, weight: u8) -> Vec<Span> {
         cost: COST_LIMIT,
     });
     spans.collect()
+}
+
+/// The frames of a table, whatever its numbers.
+pub fn table_frames(table: &Table) -> Vec<u8> {
+    frames(table, table.spans.len())
 }
 
 /// The frames of a table, whatever its numbers, with this count of spans in the head.
