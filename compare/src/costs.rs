@@ -50,7 +50,7 @@ pub fn spans(rng: &mut Rng) -> Compared {
     Ok(())
 }
 
-/// A count of vertices.
+/// A count of vertices, none of the large ones.
 pub fn some_vertices(rng: &mut Rng) -> usize {
     generate::size(rng).min(MOST_VERTICES)
 }
