@@ -12,6 +12,7 @@
 #define _DEFAULT_SOURCE
 #include "thinning.h"
 
+#include <inttypes.h>
 #include <pthread.h>
 #include <stdio.h>
 #include <stdlib.h>
@@ -197,8 +198,8 @@ static void tabulate(struct texts *texts, const struct columns *columns)
     size_t length = (size_t)snprintf(table, sizeof texts->table, "08%04zx%04zx%04zx\n", columns->vertices,
                                      columns->reserved, count);
     for (size_t span = 0; span < count; span++)
-        length += (size_t)snprintf(table + length, sizeof texts->table - length, "09%04x%04x%02x%08x\n",
-                                   spans[span].low, spans[span].high, spans[span].weight, (unsigned)spans[span].cost);
+        length += (size_t)snprintf(table + length, sizeof texts->table - length, "09%04x%04x%02x%016" PRIx64 "\n",
+                                   spans[span].low, spans[span].high, spans[span].weight, (uint64_t)spans[span].cost);
     texts->table_length = length;
 }
 

@@ -11,7 +11,7 @@
  * nobody else writes what it is given, or reads what it writes.
  *
  * thinning_plan, thinning_plan_table and thinning_check_chain go as deep as there are vertices: at 256 vertices the two
- * planners take 1.59 MB of stack and the chain check 1.46 MB, measured by the command ./stack.
+ * planners take 1.59 MB of stack and the chain check 1.45 MB, measured by the command ./stack.
  *
  * The refusals:
  *    1  the form: a broken line, a wrong kind or length, a missing frame, bytes left over; columns of a wrong length
@@ -19,7 +19,7 @@
  *    3  the reserved edge is none of the network's
  *    4  an edge out of its place, or the ends of an edge or a span are not two vertices of the network, the lower one
  *       first
- *    5  a cost below -1000000000 or above 1000000000
+ *    5  a cost below -1000000000000 or above 1000000000000
  *    6  a vertex without degree 4
  *    7  a cut that fewer than four edges cross
  *    8  a step's v is no end of the reserved edge
@@ -54,19 +54,19 @@ extern "C" {
 #define THINNING_STEPS 254
 
 /* The most bytes that a text has. A buffer of so many is never too short. */
-#define THINNING_NETWORK_TEXT 11787
+#define THINNING_NETWORK_TEXT 15883
 #define THINNING_CHAIN_TEXT 3817
 #define THINNING_KEPT_TEXT 3612
 #define THINNING_LIST_TEXT 3584
 #define THINNING_PAGE_TEXT 18981
-#define THINNING_TABLE_TEXT 10767
+#define THINNING_TABLE_TEXT 14863
 
 /* Checks a network text. Refusals: 1 to 5, whichever comes first in the text, then 6, then 7. */
 uint32_t thinning_check_network(const uint8_t *network, size_t network_len);
 
 /* Plans a network text: writes the chain text and the kept text, and their lengths in bytes.
  * Refusals: 1 to 7 of the network, as in its check, then 13 if either buffer is too short.
- * Room for every plan: chain 3817 bytes, kept 3612 bytes. */
+ * Room for every plan: chain THINNING_CHAIN_TEXT bytes, kept THINNING_KEPT_TEXT bytes. */
 uint32_t thinning_plan(const uint8_t *network, size_t network_len,
                        uint8_t *chain, size_t chain_len,
                        uint8_t *kept, size_t kept_len,
@@ -75,7 +75,7 @@ uint32_t thinning_plan(const uint8_t *network, size_t network_len,
 /* Checks any bytes proposed as a chain over a network text: writes the kept text, and its length in bytes.
  * Refusals: 1 to 7 of the network, as in its check; then 1 and 8 to 12 of the chain, whichever comes first in it;
  * then 13.
- * Room for every chain: kept 3612 bytes. */
+ * Room for every chain: kept THINNING_KEPT_TEXT bytes. */
 uint32_t thinning_check_chain(const uint8_t *network, size_t network_len,
                               const uint8_t *chain, size_t chain_len,
                               uint8_t *kept, size_t kept_len,
@@ -97,7 +97,7 @@ uint32_t thinning_audit(const uint8_t *network, size_t network_len, const uint8_
  * sum is 0.
  * Refusals: 1 to 5 of the network, whichever comes first in the text, then 1 and 14 of the list, whichever comes first
  * in it, then 13. Degrees and cuts are not looked at.
- * Room for every list: page 18981 bytes; for one of k edges 37 * (k + 1). */
+ * Room for every list: page THINNING_PAGE_TEXT bytes; for one of k edges 37 * (k + 1). */
 uint32_t thinning_print_page(const uint8_t *network, size_t network_len, const uint8_t *list, size_t list_len,
                              uint8_t *page, size_t page_len,
                              size_t *written);
@@ -109,7 +109,7 @@ uint32_t thinning_check_table(const uint8_t *table, size_t table_len);
 /* Plans a table text: writes the chain text and the kept text of the network that the table stands for, the same that
  * thinning_plan writes, and their lengths in bytes.
  * Refusals: 1 to 7, 15 and 16, as in the table's check, then 13 if either buffer is too short.
- * Room for every plan: chain 3817 bytes, kept 3612 bytes. */
+ * Room for every plan: chain THINNING_CHAIN_TEXT bytes, kept THINNING_KEPT_TEXT bytes. */
 uint32_t thinning_plan_table(const uint8_t *table, size_t table_len,
                              uint8_t *chain, size_t chain_len,
                              uint8_t *kept, size_t kept_len,
@@ -117,7 +117,7 @@ uint32_t thinning_plan_table(const uint8_t *table, size_t table_len,
 
 /* Writes the network text that a table text stands for, and its length in bytes.
  * Refusals: 1 to 5, 15 and 16, as in the table's check, then 13. Degrees and cuts are not looked at.
- * Room for every table: network 11787 bytes. */
+ * Room for every table: network THINNING_NETWORK_TEXT bytes. */
 uint32_t thinning_table_network(const uint8_t *table, size_t table_len,
                                 uint8_t *network, size_t network_len,
                                 size_t *written);
@@ -126,7 +126,7 @@ uint32_t thinning_table_network(const uint8_t *table, size_t table_len,
  * of vertices and the reserved edge. Each column gets twice as many elements as there are vertices.
  * Refusals: 1 to 5, whichever comes first in the text, then 13 if a column is too short. Degrees and cuts are not
  * looked at.
- * Room for every network: 512 elements in each column. */
+ * Room for every network: THINNING_EDGES elements in each column. */
 uint32_t thinning_read_network(const uint8_t *text, size_t text_len,
                                uint16_t *low, size_t low_len,
                                uint16_t *high, size_t high_len,
@@ -136,7 +136,7 @@ uint32_t thinning_read_network(const uint8_t *text, size_t text_len,
 /* Writes the network text of columns, which have as many elements as there are edges, and its length in bytes.
  * Refusals: 2, 3, then 1 for a column of another length and 4 and 5 of the edges, whichever comes first by the edges'
  * numbers, then 13. Degrees and cuts are not looked at.
- * Room for every network: text 11787 bytes. */
+ * Room for every network: text THINNING_NETWORK_TEXT bytes. */
 uint32_t thinning_write_network(size_t vertices, size_t reserved,
                                 const uint16_t *low, size_t low_len,
                                 const uint16_t *high, size_t high_len,
@@ -147,7 +147,7 @@ uint32_t thinning_write_network(size_t vertices, size_t reserved,
 /* Reads a chain text for so many vertices: writes v, x and y of each step, and the edge that the ending drops. Each
  * column gets two elements fewer than there are vertices.
  * Refusals: 2, then 1 of the text, then 13 if a column is too short. The steps are not judged.
- * Room for every chain: 254 elements in each column. */
+ * Room for every chain: THINNING_STEPS elements in each column. */
 uint32_t thinning_read_chain(size_t vertices,
                              const uint8_t *text, size_t text_len,
                              uint16_t *v, size_t v_len,
@@ -157,7 +157,7 @@ uint32_t thinning_read_chain(size_t vertices,
 
 /* Writes the chain text of columns, which have two elements fewer than there are vertices, and its length in bytes.
  * Refusals: 2, then 1 for a column of another length, then 13. The steps are not judged.
- * Room for every chain: text 3817 bytes. */
+ * Room for every chain: text THINNING_CHAIN_TEXT bytes. */
 uint32_t thinning_write_chain(size_t vertices,
                               const uint16_t *v, size_t v_len,
                               const uint16_t *x, size_t x_len,
@@ -168,7 +168,7 @@ uint32_t thinning_write_chain(size_t vertices,
 
 /* Reads an audit list for so many vertices: writes its edges, and how many they are.
  * Refusals: 2, then 1 and 14 of the text, whichever comes first in it, then 13.
- * Room for every list: 512 edges. */
+ * Room for every list: THINNING_EDGES edges. */
 uint32_t thinning_read_list(size_t vertices,
                             const uint8_t *text, size_t text_len,
                             uint16_t *edges, size_t edges_len,
@@ -176,7 +176,7 @@ uint32_t thinning_read_list(size_t vertices,
 
 /* Writes the audit list of rising edges, and its length in bytes.
  * Refusals: 2, then 14, then 13.
- * Room for every list: text 3584 bytes. */
+ * Room for every list: text THINNING_LIST_TEXT bytes. */
 uint32_t thinning_write_list(size_t vertices,
                              const uint16_t *edges, size_t edges_len,
                              uint8_t *text, size_t text_len,

@@ -12,6 +12,7 @@ import sys
 
 import networkx
 
+COST_LIMIT = 10**12
 PROGRAM = os.path.join(os.path.dirname(os.path.abspath(__file__)), "..", "target", "bin", "plan")
 
 
@@ -38,8 +39,8 @@ def text(rng, vertices, edges):
     """The network text, with a random reserved edge and random costs."""
     lines = ["01%04x%04x" % (vertices, rng.randrange(len(edges)))]
     for number, (low, high) in enumerate(edges):
-        cost = rng.randint(-1000, 1000) & 0xFFFFFFFF
-        lines.append("02%04x%04x%04x%08x" % (number, low, high, cost))
+        cost = rng.randint(-COST_LIMIT, COST_LIMIT) & 0xFFFFFFFFFFFFFFFF
+        lines.append("02%04x%04x%04x%016x" % (number, low, high, cost))
     return "".join(line + "\n" for line in lines).encode()
 
 

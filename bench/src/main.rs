@@ -179,7 +179,7 @@ fn reading_a_network() {
     let reserved = single_pass::load(&text).map(|loaded| loaded.reserved);
     assert_eq!(reserved, Ok(network.reserved));
     rivals(
-        "reading a network",
+        "reading the longest network text",
         text.len(),
         &[SECOND, SINGLE_PASS],
         [
@@ -204,7 +204,7 @@ fn reading_a_network_and_degrees() {
     let single_pass = single_pass::load_four_regular(&text).err();
     assert_eq!(single_pass, Some(NOT_FOUR_REGULAR));
     rivals(
-        "reading a network and its degrees",
+        "reading the longest network text and its degrees",
         text.len(),
         &[SECOND, SINGLE_PASS],
         [
@@ -226,7 +226,7 @@ fn reading_a_table() {
     assert_eq!(thinning::check_table(&text), Err(Refusal::Form));
     assert_eq!(read_table(&text), Err(BROKEN_TEXT));
     rivals(
-        "reading a table",
+        "reading the longest table text and a byte behind it",
         text.len(),
         &[SECOND],
         [

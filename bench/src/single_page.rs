@@ -101,7 +101,7 @@ fn read_listed(line: &[u8; LISTED_LINE]) -> Result<usize, Refusal> {
     let mut digits = Digits::new(line);
     let kind = digits.take(ONE_BYTE);
     let edge = digits.take(TWO_BYTES) as usize;
-    if digits.end_the_line() && kind == u32::from(LISTED.kind) {
+    if digits.end_the_line() && kind == u64::from(LISTED.kind) {
         Ok(edge)
     } else {
         Err(BROKEN_TEXT)

@@ -13,10 +13,10 @@ pub const MOST_EDGES: usize = second::lengths::edge_column(MOST_VERTICES);
 /// The edges at each vertex of an accepted network.
 const DEGREE: u16 = 4;
 
-/// The digits of fields of one, two and four bytes.
+/// The digits of fields of one, two and eight bytes.
 pub const ONE_BYTE: usize = 2;
 pub const TWO_BYTES: usize = 4;
-const FOUR_BYTES: usize = 8;
+const EIGHT_BYTES: usize = 16;
 
 /// What a character that is no digit counts as: a bit that no digit has.
 const NO_DIGIT: u8 = 0x80;
@@ -84,7 +84,7 @@ fn read_head(line: &[u8; HEAD_LINE]) -> Result<(usize, usize), Refusal> {
     let kind = digits.take(ONE_BYTE);
     let vertices = digits.take(TWO_BYTES) as usize;
     let reserved = digits.take(TWO_BYTES) as usize;
-    if !digits.end_the_line() || kind != u32::from(HEAD.kind) {
+    if !digits.end_the_line() || kind != u64::from(HEAD.kind) {
         return Err(BROKEN_TEXT);
     }
     if !(FEWEST_VERTICES..=MOST_VERTICES).contains(&vertices) {
@@ -105,8 +105,8 @@ impl Loaded {
         let number = digits.take(TWO_BYTES) as usize;
         let low = digits.take(TWO_BYTES) as usize;
         let high = digits.take(TWO_BYTES) as usize;
-        let cost = i64::from(digits.take(FOUR_BYTES).cast_signed());
-        if !digits.end_the_line() || kind != u32::from(EDGE.kind) {
+        let cost = digits.take(EIGHT_BYTES).cast_signed();
+        if !digits.end_the_line() || kind != u64::from(EDGE.kind) {
             return Err(BROKEN_TEXT);
         }
         if number != place || high <= low || self.vertices <= high {
@@ -144,12 +144,12 @@ impl<'line, const LENGTH: usize> Digits<'line, LENGTH> {
 
     /// The number that the next digits stand for.
     #[inline(always)]
-    pub fn take(&mut self, count: usize) -> u32 {
+    pub fn take(&mut self, count: usize) -> u64 {
         let mut number = 0;
         for _ in 0..count {
             let value = VALUES[usize::from(self.line[self.taken])];
             self.bits |= value;
-            number = (number << 4) | u32::from(value);
+            number = (number << 4) | u64::from(value);
             self.taken += 1;
         }
         number

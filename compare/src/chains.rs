@@ -1,7 +1,7 @@
 //! Chains: check, reader and writer.
 
 use second::generate::{self, aimed_chain, chain_by_rule, changed_chain, Aim, Aimed, Rng};
-use second::{columns, Chain, Network, Refusal};
+use second::{columns, Chain, Network, Refusal, Step};
 use thinning::raw;
 
 use crate::buffers::{compare, due_length, lengths, Lent, Number};
@@ -50,7 +50,19 @@ fn by_rule(rng: &mut Rng, network: &Network) -> Vec<u8> {
     second::write_chain(network.vertices, &chain).expect("the chain has all its steps")
 }
 
-fn check(rng: &mut Rng, network: &[u8], chain: &[u8], seldom: bool) -> Compared {
+/// A chain text of the right form. Its first step, if there is one, names one edge twice, for which
+/// a check refuses it.
+pub fn of_right_form(vertices: usize) -> Vec<u8> {
+    let step = Step { v: 0, x: 0, y: 0 };
+    let chain = Chain {
+        steps: vec![step; vertices - 2],
+        dropped: 0,
+    };
+    second::write_chain(vertices, &chain).expect("it has all its steps")
+}
+
+/// The chain check, with buffers of every length or called seldom, as [`lengths`] has it.
+pub fn check(rng: &mut Rng, network: &[u8], chain: &[u8], seldom: bool) -> Compared {
     let (kept_due, refusal) = match second::check_chain(network, chain) {
         Ok(kept) => (kept, None),
         Err(refusal) => (Vec::new(), Some(refusal)),
@@ -119,7 +131,7 @@ pub fn texts_and_columns(rng: &mut Rng) -> Compared {
 fn rows(v: &[u16], x: &[u16], y: &[u16], dropped: u16) -> Vec<u8> {
     let mut text = Vec::new();
     for ((&v, &x), &y) in v.iter().zip(x).zip(y) {
-        second::texts::write_step(second::Step { v, x, y }, &mut text);
+        second::texts::write_step(Step { v, x, y }, &mut text);
     }
     second::texts::write_ending(dropped, &mut text);
     text

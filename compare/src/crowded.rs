@@ -3,7 +3,6 @@
 
 use second::generate::{self, Crowd, FrameFault, Rng, FEWEST_CROWDING};
 use second::refusal::NOT_FOUR_REGULAR;
-use second::{Chain, Step};
 
 use crate::buffers::due_length;
 use crate::difference::{Compared, Difference, Given, Text};
@@ -39,7 +38,7 @@ pub fn cases(rng: &mut Rng, crowd: Crowd, vertices: usize) -> Vec<Case> {
     let network = generate::crowded_network(rng, crowd, vertices);
     let edges = generate::list(rng, &network);
     let list = second::write_list(network.vertices, &edges).expect("the list rises");
-    let chain = chain(network.vertices);
+    let chain = chains::of_right_form(network.vertices);
     let last = network.edges.len() - 1;
     let mut cases = Vec::new();
     for fault in FrameFault::ALL {
@@ -53,16 +52,6 @@ pub fn cases(rng: &mut Rng, crowd: Crowd, vertices: usize) -> Vec<Case> {
         }
     }
     cases
-}
-
-/// A chain text that a check refuses for its first step, which names one edge twice.
-fn chain(vertices: usize) -> Vec<u8> {
-    let step = Step { v: 0, x: 0, y: 0 };
-    let chain = Chain {
-        steps: vec![step; vertices - 2],
-        dropped: 0,
-    };
-    second::write_chain(vertices, &chain).expect("it has all its steps")
 }
 
 /// All services on a text that has the refusal of its fault.

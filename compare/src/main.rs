@@ -16,6 +16,7 @@ use arguments::{Work, USAGE};
 mod arguments;
 mod buffers;
 mod chains;
+mod costs;
 mod crowded;
 mod difference;
 mod largest;

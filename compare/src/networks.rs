@@ -42,8 +42,9 @@ pub fn any_text(rng: &mut Rng) -> Vec<u8> {
 /// Check, plan and reader on any text.
 pub fn texts(rng: &mut Rng) -> Compared {
     let text = any_text(rng);
+    let seldom = text.len() > second::lengths::network_text(MANY_VERTICES);
     check(&text)?;
-    plan(rng, &text)?;
+    plan(rng, &text, seldom)?;
     read(rng, &text, false)
 }
 
@@ -60,10 +61,10 @@ pub fn check(text: &[u8]) -> Compared {
     )
 }
 
-fn plan(rng: &mut Rng, text: &[u8]) -> Compared {
+/// The planner, with buffers of every length or called seldom, as [`lengths`] has it.
+pub fn plan(rng: &mut Rng, text: &[u8], seldom: bool) -> Compared {
     let plan = second::plan(text);
     let due = plan.as_ref().map_err(|&refusal| refusal);
-    let seldom = text.len() > second::lengths::network_text(MANY_VERTICES);
     for lengths in plan_lengths(rng, due, seldom) {
         plan_into(rng, text, due, lengths)?;
     }

@@ -6,13 +6,13 @@ use std::panic::{self, AssertUnwindSafe};
 use second::generate::Rng;
 
 use crate::difference::{Compared, Difference, Words};
-use crate::{chains, crowded, lists, networks, pages, program, tables, vectors};
+use crate::{chains, costs, crowded, lists, networks, pages, program, tables, vectors};
 
 /// A part of a round and its name.
 type Part = (&'static str, fn(&mut Rng) -> Compared);
 
 /// New parts stand last, so that those before them keep their numbers.
-const PARTS: [Part; 19] = [
+const PARTS: [Part; 21] = [
     ("program", program::plan),
     ("network-texts", networks::texts),
     ("network-columns", networks::columns),
@@ -32,6 +32,8 @@ const PARTS: [Part; 19] = [
     ("longest-pages", pages::longest),
     ("page-refusals", pages::refusals),
     ("page-vectors", vectors::pages),
+    ("edge-costs", costs::edges),
+    ("span-costs", costs::spans),
 ];
 
 /// Runs all rounds, and says how many differences were met.
@@ -113,12 +115,14 @@ impl Progress {
 
 #[cfg(test)]
 mod tests {
-    use std::collections::BTreeSet;
+    use std::collections::{BTreeMap, BTreeSet};
 
     use second::audit::audit_list;
-    use second::generate;
+    use second::generate::{self, EDGE_AS_SPAN, NARROW_EDGE, NARROW_SPAN, SPAN_AS_EDGE};
     use second::lengths::fits;
+    use second::lines::{Lines, Shape, EDGE, HEAD, SPAN, TABLE_HEAD};
     use second::texts::COST_LIMIT;
+    use second::Network;
 
     use super::*;
 
@@ -214,6 +218,133 @@ mod tests {
         }
     }
 
+    /// What the check of a text answers, and what it meets for that: in an accepted text costs at a
+    /// limit, else a cost beyond the limits or a frame with other fields; and whether a cost is
+    /// below zero.
+    type Met = (u8, &'static str, bool);
+
+    const EVERY_COST: [Met; 11] = [
+        (0, "limit", false),
+        (0, "limit", true),
+        (5, "next", false),
+        (5, "next", true),
+        (5, "beyond", false),
+        (5, "beyond", true),
+        (5, "furthest", false),
+        (5, "furthest", true),
+        (1, "narrow cost", false),
+        (1, "narrow costs", false),
+        (1, "other fields", false),
+    ];
+
+    /// Where a cost is, if it is at a limit or beyond.
+    fn place_of(cost: i64) -> Option<&'static str> {
+        let beyond = cost.unsigned_abs().checked_sub(COST_LIMIT.unsigned_abs())?;
+        Some(match beyond {
+            0 => "limit",
+            1 => "next",
+            _ if cost == i64::MAX || cost == i64::MIN => "furthest",
+            _ => "beyond",
+        })
+    }
+
+    /// What is met in a text with this head and such frames, of which two shapes are wrong.
+    fn met<const FIELDS: usize>(
+        answer: u8,
+        text: &[u8],
+        head: Shape<FIELDS>,
+        [frame, narrow, other]: [Shape<4>; 3],
+    ) -> Vec<Met> {
+        let mut lines = Lines::new(text);
+        head.read(&mut lines).expect("the heads are right");
+        let reads = |shape: Shape<4>, mut lines: Lines| shape.read(&mut lines).is_ok();
+        let all_read = |shape: Shape<4>, mut lines: Lines| {
+            while shape.read(&mut lines).is_ok() {}
+            lines.at_end()
+        };
+        if all_read(narrow, lines.clone()) {
+            return vec![(answer, "narrow costs", false)];
+        }
+        let mut met = Vec::new();
+        while !lines.at_end() {
+            let rest = lines.clone();
+            let Ok([.., cost]) = frame.read(&mut lines) else {
+                met.clear();
+                met.extend(reads(narrow, rest.clone()).then_some((answer, "narrow cost", false)));
+                met.extend(reads(other, rest).then_some((answer, "other fields", false)));
+                return met;
+            };
+            let here = place_of(cost).map(|place| (answer, place, cost < 0));
+            if cost.unsigned_abs() > COST_LIMIT.unsigned_abs() {
+                return here.into_iter().collect();
+            }
+            met.extend(here);
+        }
+        met
+    }
+
+    #[test]
+    fn every_round_has_costs_on_both_sides_of_their_limits() {
+        for (part, mut rng) in (1..=40).flat_map(parts) {
+            let mut all = BTreeSet::new();
+            match part.0 {
+                "edge-costs" => {
+                    let vertices = costs::some_vertices(&mut rng);
+                    for case in costs::edge_cases(&mut rng, vertices) {
+                        let answer = second::check_network(&case.text).err().unwrap_or(0);
+                        let shapes = [EDGE, NARROW_EDGE, EDGE_AS_SPAN];
+                        all.extend(met(answer, &case.text, HEAD, shapes));
+                    }
+                }
+                "span-costs" => {
+                    let vertices = costs::some_vertices(&mut rng);
+                    for case in costs::span_cases(&mut rng, vertices) {
+                        let answer = second::check_table(&case.text).err().unwrap_or(0);
+                        let shapes = [SPAN, NARROW_SPAN, SPAN_AS_EDGE];
+                        all.extend(met(answer, &case.text, TABLE_HEAD, shapes));
+                    }
+                }
+                _ => continue,
+            }
+            assert_eq!(all, BTreeSet::from(EVERY_COST), "{}", part.0);
+        }
+    }
+
+    /// The networks that read among those of a part, or none of a part that isn't looked at.
+    fn networks_of(part: &str, rng: &mut Rng) -> Vec<Network> {
+        match part {
+            "program" | "network-texts" | "network-vectors" => {
+                let text = networks::any_text(rng);
+                second::read_network(&text).into_iter().collect()
+            }
+            "table-texts" | "table-vectors" => {
+                let texts = tables::every_sort(rng).expect("the second program is right");
+                let tables = texts.iter().flat_map(|text| second::read_table(text));
+                tables.map(|table| table.network()).collect()
+            }
+            "half-built-audits" => lists::half_built(rng).map(|(network, _)| network).into(),
+            "pages" => pages::printable(rng).map(|(network, _)| network).into(),
+            _ => Vec::new(),
+        }
+    }
+
+    #[test]
+    fn more_than_half_of_all_networks_have_costs_beyond_four_bytes() {
+        let mut counted: BTreeMap<&str, [usize; 2]> = BTreeMap::new();
+        for (part, mut rng) in (1..=200).flat_map(parts) {
+            for network in networks_of(part.0, &mut rng) {
+                let [wide, all] = counted.entry(part.0).or_default();
+                let mut costs = network.edges.iter().map(|edge| edge.cost);
+                *wide += usize::from(costs.any(|cost| i32::try_from(cost).is_err()));
+                *all += 1;
+            }
+        }
+        assert_eq!(counted.len(), 7);
+        for (part, [wide, all]) in counted {
+            assert!(2 * wide > all, "{part}: {wide} of {all}");
+        }
+    }
+
     /// The signs of numbers with how many digits they have.
     fn widths(numbers: &BTreeSet<i64>) -> BTreeSet<(bool, usize)> {
         let width = |number: &i64| number.unsigned_abs().to_string().len();
@@ -255,8 +386,8 @@ mod tests {
                 }
             }
         }
-        assert_eq!(widths(&costs), every_width(10));
-        assert_eq!(widths(&sums), every_width(12));
+        assert_eq!(widths(&costs), every_width(13));
+        assert_eq!(widths(&sums), every_width(15));
         let ends = |numbers: BTreeSet<i64>| [numbers.first().copied(), numbers.last().copied()];
         assert_eq!(ends(costs), [-COST_LIMIT, COST_LIMIT].map(Some));
         assert_eq!(ends(sums), [-512 * COST_LIMIT, 512 * COST_LIMIT].map(Some));

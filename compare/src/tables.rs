@@ -15,8 +15,9 @@ const MANY_SPANS: usize = MANY_VERTICES;
 /// All services on table texts of every sort.
 pub fn texts(rng: &mut Rng) -> Compared {
     for text in every_sort(rng)? {
+        let seldom = text.len() > second::lengths::table_text(MANY_SPANS);
         check(&text)?;
-        plan(rng, &text)?;
+        plan(rng, &text, seldom)?;
         network(rng, &text)?;
         plan_of_network(&text)?;
     }
@@ -57,10 +58,10 @@ pub fn check(text: &[u8]) -> Compared {
     compare("table check", answer, refusal, given, &[])
 }
 
-fn plan(rng: &mut Rng, text: &[u8]) -> Compared {
+/// The planner, with buffers of every length or called seldom, as [`plan_lengths`] has it.
+pub fn plan(rng: &mut Rng, text: &[u8], seldom: bool) -> Compared {
     let plan = second::plan_table(text);
     let due = plan.as_ref().map_err(|&refusal| refusal);
-    let seldom = text.len() > second::lengths::table_text(MANY_SPANS);
     for lengths in plan_lengths(rng, due, seldom) {
         plan_into(rng, text, due, lengths)?;
     }

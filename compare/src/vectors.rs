@@ -158,3 +158,27 @@ pub fn tables(rng: &mut Rng) -> Compared {
     }
     Ok(())
 }
+
+#[cfg(test)]
+mod tests {
+    use second::lengths::{
+        edge_column, kept_text, step_column, LONGEST_CHAIN_TEXT, LONGEST_LIST_TEXT,
+        LONGEST_NETWORK_TEXT, LONGEST_PAGE, LONGEST_TABLE_TEXT,
+    };
+    use second::texts::MOST_VERTICES;
+
+    #[test]
+    fn the_wrapper_has_room_for_the_longest_of_everything_and_no_more() {
+        let edges = edge_column(MOST_VERTICES);
+        assert_eq!(thinning::VERTICES, MOST_VERTICES);
+        assert_eq!(thinning::EDGES, edges);
+        assert_eq!(thinning::STEPS, step_column(MOST_VERTICES));
+        assert_eq!(thinning::NETWORK_TEXT, LONGEST_NETWORK_TEXT);
+        assert_eq!(thinning::CHAIN_TEXT, LONGEST_CHAIN_TEXT);
+        // All edges but the reserved one are kept.
+        assert_eq!(thinning::KEPT_TEXT, kept_text(edges - 1));
+        assert_eq!(thinning::LIST_TEXT, LONGEST_LIST_TEXT);
+        assert_eq!(thinning::PAGE_TEXT, LONGEST_PAGE);
+        assert_eq!(thinning::TABLE_TEXT, LONGEST_TABLE_TEXT);
+    }
+}

@@ -46,6 +46,7 @@ pub fn write_chain(
 mod tests {
     use super::*;
     use crate::refusal::{BAD_COST, BAD_EDGE, BROKEN_TEXT};
+    use crate::texts::COST_LIMIT;
 
     #[test]
     fn a_short_column_is_met_at_its_place() {
@@ -57,7 +58,7 @@ mod tests {
             write_network(2, 0, &low, &high[..3], &cost),
             Err(BROKEN_TEXT)
         );
-        let dear = [1, 2, 3, 1_000_000_001];
+        let dear = [1, 2, 3, COST_LIMIT + 1];
         assert_eq!(
             write_network(2, 0, &low[..3], &high, &dear),
             Err(BROKEN_TEXT)
@@ -73,7 +74,7 @@ mod tests {
         let high = [1, 1, 1, 1];
         let cost = [1, 2, 3, 4];
         assert_eq!(write_network(2, 0, &low, &high, &cost), Err(BROKEN_TEXT));
-        let dear = [1, 2, 3, -1_000_000_001];
+        let dear = [1, 2, 3, -COST_LIMIT - 1];
         assert_eq!(write_network(2, 0, &low, &high, &dear), Err(BAD_COST));
         assert_eq!(write_chain(2, &[], &[], &[7], 1), Err(BROKEN_TEXT));
         assert_eq!(

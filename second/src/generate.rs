@@ -11,18 +11,20 @@ mod meanings;
 mod networks;
 mod pages;
 mod rng;
+mod shapes;
 mod tables;
 
 pub use chains::{aimed_chain, chain_by_rule, changed_chain, Aim, Aimed};
-pub use costs::CostStyle;
+pub use costs::{CostAim, CostStyle};
 pub use crowded::{crowded_network, faulty_text, Crowd, FrameFault, FEWEST_CROWDING};
 pub use damage::{damage, Damage};
 pub use lists::{aimed_list, broken_list, list, list_of, ListStyle};
 pub use meanings::{chain_columns, list_meaning, network_columns, ChainColumns, NetworkColumns};
 pub use networks::{
-    aimed_network, broken_network, dress, loose_network, network, network_of, size, text, Family,
-    NetworkAim, Shapeless,
+    aimed_network, broken_network, dress, frames, loose_network, network, network_of, size, text,
+    Family, NetworkAim, Shapeless,
 };
 pub use pages::PrintedCosts;
 pub use rng::Rng;
-pub use tables::{aimed_table, loose_table, table, table_of, table_text, TableAim};
+pub use shapes::{EDGE_AS_SPAN, NARROW_EDGE, NARROW_SPAN, SPAN_AS_EDGE};
+pub use tables::{aimed_table, loose_table, table, table_frames, table_of, table_text, TableAim};

@@ -76,11 +76,11 @@ mod tests {
 
     #[test]
     fn longest_texts() {
-        assert_eq!(LONGEST_NETWORK_TEXT, 11_787);
+        assert_eq!(LONGEST_NETWORK_TEXT, 15_883);
         assert_eq!(LONGEST_CHAIN_TEXT, 3_817);
         assert_eq!(LONGEST_LIST_TEXT, 3_584);
         assert_eq!(LONGEST_PAGE, 18_981);
-        assert_eq!(LONGEST_TABLE_TEXT, 10_767);
+        assert_eq!(LONGEST_TABLE_TEXT, 14_863);
         assert_eq!(kept_text(0), 35);
         assert_eq!(page(0), 37);
         assert_eq!(refusal_line(), 5);

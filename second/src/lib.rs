@@ -7,10 +7,10 @@
 //!
 //! ```
 //! let network = b"0100020000\n\
-//!     0200000000000100000005\n\
-//!     02000100000001ffffffff\n\
-//!     0200020000000100000003\n\
-//!     0200030000000100000003\n";
+//!     020000000000010000000000000005\n\
+//!     02000100000001ffffffffffffffff\n\
+//!     020002000000010000000000000003\n\
+//!     020003000000010000000000000003\n";
 //! let plan = second::plan(network).unwrap();
 //! assert_eq!(plan.chain, b"040003\n");
 //! assert_eq!(second::check_chain(network, &plan.chain), Ok(plan.kept));

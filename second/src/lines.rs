@@ -40,6 +40,9 @@ pub struct Shape<const FIELDS: usize> {
     pub fields: [Field; FIELDS],
 }
 
+/// The cost of an edge or of a span.
+const COST: Field = Field::Signed(8);
+
 /// Count of vertices, reserved edge.
 pub const HEAD: Shape<2> = Shape {
     kind: 0x01,
@@ -52,7 +55,7 @@ pub const EDGE: Shape<4> = Shape {
         Field::Unsigned(2),
         Field::Unsigned(2),
         Field::Unsigned(2),
-        Field::Signed(4),
+        COST,
     ],
 };
 /// The vertex v, partner x, partner y.
@@ -87,7 +90,7 @@ pub const SPAN: Shape<4> = Shape {
         Field::Unsigned(2),
         Field::Unsigned(2),
         Field::Unsigned(1),
-        Field::Signed(4),
+        COST,
     ],
 };
 /// Refusal number.
@@ -176,7 +179,7 @@ impl<'text> Lines<'text> {
     }
 }
 
-/// The number of at most 16 digits.
+/// The number of at most 16 digits; 16 of them have all bits, the sign among them.
 fn number(digits: &[u8]) -> Result<i64, Refusal> {
     digits.iter().try_fold(0, |value, &character| {
         let digit = match character {
@@ -202,52 +205,102 @@ mod tests {
         EDGE.read(&mut Lines::new(text))
     }
 
+    fn read_span(text: &[u8]) -> Result<[i64; 4], Refusal> {
+        SPAN.read(&mut Lines::new(text))
+    }
+
     #[test]
     fn lengths_of_the_nine_kinds() {
         assert_eq!(HEAD.line_length(), 11);
-        assert_eq!(EDGE.line_length(), 23);
+        assert_eq!(EDGE.line_length(), 31);
         assert_eq!(STEP.line_length(), 15);
         assert_eq!(ENDING.line_length(), 7);
         assert_eq!(LISTED.line_length(), 7);
         assert_eq!(SUMS.line_length(), 35);
         assert_eq!(TABLE_HEAD.line_length(), 15);
-        assert_eq!(SPAN.line_length(), 21);
+        assert_eq!(SPAN.line_length(), 29);
         assert_eq!(REFUSED.line_length(), 5);
     }
 
+    /// Numbers of eight bytes, among them ones that have another value or another sign in four.
+    const NUMBERS: [i64; 11] = [
+        0,
+        1,
+        -1,
+        0x7fff_ffff,
+        0x8000_0000,
+        0xffff_ffff,
+        0x1_0000_0000,
+        -0x8000_0001,
+        -0x1_0000_0000,
+        i64::MAX,
+        i64::MIN,
+    ];
+
     #[test]
     fn what_is_written_is_read_again() {
-        for cost in [0, 1, -1, i64::from(i32::MAX), i64::from(i32::MIN)] {
+        for number in NUMBERS {
             let mut text = Vec::new();
-            EDGE.write([511, 0, 65_535, cost], &mut text);
-            assert_eq!(read_edge(&text), Ok([511, 0, 65_535, cost]));
+            EDGE.write([511, 0, 65_535, number], &mut text);
+            assert_eq!(read_edge(&text), Ok([511, 0, 65_535, number]));
+            let mut text = Vec::new();
+            SPAN.write([0, 65_535, 255, number], &mut text);
+            assert_eq!(read_span(&text), Ok([0, 65_535, 255, number]));
+            let mut text = Vec::new();
+            SUMS.write([number, -1], &mut text);
+            assert_eq!(SUMS.read(&mut Lines::new(&text)), Ok([number, -1]));
         }
-        for sum in [0, 1, -1, i64::MAX, i64::MIN] {
-            let mut text = Vec::new();
-            SUMS.write([sum, -1], &mut text);
-            assert_eq!(SUMS.read(&mut Lines::new(&text)), Ok([sum, -1]));
+    }
+
+    #[test]
+    fn the_first_bit_of_a_signed_field_is_its_sign() {
+        for width in 1..=8 {
+            let lowest = ["80", &"00".repeat(width - 1)].concat();
+            let highest = ["7f", &"ff".repeat(width - 1)].concat();
+            let [lowest, highest] =
+                [lowest, highest].map(|digits| Field::Signed(width).decode(digits.as_bytes()));
+            let half = 1_i128 << (8 * width - 1);
+            assert_eq!(lowest.map(i128::from), Ok(-half));
+            assert_eq!(highest.map(i128::from), Ok(half - 1));
         }
     }
 
     #[test]
     fn faults_of_form() {
-        assert_eq!(read_edge(b"02000000010002fffffffa\n"), Ok([0, 1, 2, -6]));
-        let broken: [&[u8]; 12] = [
+        let edge = b"02000000010002fffffffffffffffa\n";
+        assert_eq!(read_edge(edge), Ok([0, 1, 2, -6]));
+        let broken: [&[u8]; 14] = [
             b"",
             b"\n",
-            b"02000000010002fffffffa",
-            b"02000000010002FFFFFFFA\n",
-            b"02000000010002fffffffa\r\n",
-            b"02000000010002fffffff\n",
-            b"02000000010002fffffffa0\n",
-            b"02000000010002fffffffa00\n",
-            b"02000000010002fffff\n",
-            b"03000000010002fffffffa\n",
-            b" 2000000010002fffffffa\n",
-            b"\n02000000010002fffffffa\n",
+            b"02000000010002fffffffffffffffa",
+            b"02000000010002FFFFFFFFFFFFFFFA\n",
+            b"02000000010002fffffffffffffffa\r\n",
+            b"02000000010002fffffffffffffff\n",
+            b"02000000010002fffffffffffffffa0\n",
+            b"02000000010002fffffffffffffffa00\n",
+            b"02000000010002fffffffffffff\n",
+            b"03000000010002fffffffffffffffa\n",
+            b" 2000000010002fffffffffffffffa\n",
+            b"\n02000000010002fffffffffffffffa\n",
+            // A cost of four bytes, alone and with a frame behind it.
+            b"02000000010002fffffffa\n",
+            b"02000000010002fffffffa\n02000100010002fffffffa\n",
         ];
         for text in broken {
             assert_eq!(read_edge(text), Err(BROKEN_TEXT));
+        }
+        let span = b"09000100020afffffffffffffffa\n";
+        assert_eq!(read_span(span), Ok([1, 2, 10, -6]));
+        let broken: [&[u8]; 5] = [
+            b"09000100020afffffffffffffffa",
+            b"09000100020afffffffffffffffa00\n",
+            b"09000100020afffffffffffff\n",
+            // A cost of four bytes, alone and with a frame behind it.
+            b"09000100020afffffffa\n",
+            b"09000100020afffffffa\n09000100030afffffffa\n",
+        ];
+        for text in broken {
+            assert_eq!(read_span(text), Err(BROKEN_TEXT));
         }
     }
 }

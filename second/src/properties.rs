@@ -112,8 +112,11 @@ mod tests {
     use super::*;
     use crate::texts::{write_kept, Kept};
 
-    const TWO: &[u8] = b"0100020000\n0200000000000100000005\n02000100000001ffffffff\n\
-        0200020000000100000003\n0200030000000100000003\n";
+    const TWO: &[u8] = b"0100020000\n\
+        020000000000010000000000000005\n\
+        02000100000001ffffffffffffffff\n\
+        020002000000010000000000000003\n\
+        020003000000010000000000000003\n";
 
     fn judge(edges: &[u16], cost: i64, total: i64) -> Result<(), String> {
         let edges = edges.to_vec();
@@ -159,7 +162,7 @@ mod tests {
     }
 
     /// Two vertices and one span of weight 4, whose edges cost 3 each.
-    const SPAN: &[u8] = b"08000200000001\n09000000010400000003\n";
+    const SPAN: &[u8] = b"08000200000001\n0900000001040000000000000003\n";
 
     #[test]
     fn a_table_is_judged_by_its_network() {

@@ -108,8 +108,13 @@ pub fn write_table(table: &Table) -> Result<Vec<u8>, Refusal> {
 
 /// Appends one frame 09, whatever its numbers.
 pub fn write_span(span: Span, text: &mut Vec<u8>) {
+    SPAN.write(span_fields(span), text);
+}
+
+/// The fields of a frame 09.
+pub(crate) fn span_fields(span: Span) -> [i64; 4] {
     let (low, high, weight) = (span.low.into(), span.high.into(), span.weight.into());
-    SPAN.write([low, high, weight, span.cost], text);
+    [low, high, weight, span.cost]
 }
 
 /// Checks a table text with cuts judged by the given method.

@@ -10,7 +10,7 @@ pub const FEWEST_VERTICES: usize = 2;
 /// The most vertices of a network.
 pub const MOST_VERTICES: usize = 256;
 /// A cost lies between this number and its negative.
-pub const COST_LIMIT: i64 = 1_000_000_000;
+pub const COST_LIMIT: i64 = 1_000_000_000_000;
 
 /// One edge of a network; its number is its place.
 #[derive(Clone, Copy, Debug, PartialEq, Eq)]

@@ -1,16 +1,18 @@
-//! The planner's choices, looked at step by step, and the sum that going back must give.
+//! The planner's choices, looked at step by step, the sum that going back must give, and how far
+//! working costs go.
 
 mod common;
 
 use common::rounds;
 use second::chain::{check_step, plan_network};
-use second::generate;
+use second::generate::{self, CostStyle, Family, Rng};
 use second::network::Method;
+use second::texts::COST_LIMIT;
 use second::working::Working;
 use second::{read_kept, read_network, Network};
 
 /// A working cost is never further from zero.
-const WORKING_LIMIT: i64 = 512_000_000_000;
+const WORKING_LIMIT: i64 = 512 * COST_LIMIT;
 
 /// The admissible partners at a vertex in rising order.
 fn admissible(working: &Working, v: usize) -> Vec<usize> {
@@ -53,6 +55,34 @@ fn the_planner_chooses_as_it_must() {
         let size = generate::size(rng).min(20);
         assert_choices(&generate::network(rng, size));
     });
+}
+
+/// How far from zero working costs go on the planner's way.
+fn furthest(network: &Network) -> i64 {
+    let (chain, _) = plan_network(network, Method::ContractedFlow);
+    let mut working = Working::new(network);
+    let costs = chain.steps.iter().map(|step| {
+        let [v, x, y] = [step.v, step.x, step.y].map(usize::from);
+        let z = working.split(v, x, y);
+        working.cost(z).abs()
+    });
+    costs.max().expect("there are steps")
+}
+
+#[test]
+fn working_costs_of_the_largest_networks_stay_within_their_limit() {
+    for family in Family::ALL {
+        let mut rng = Rng::new(1);
+        let mut network = generate::network_of(&mut rng, family, 256, CostStyle::Limits);
+        assert!(furthest(&network) <= WORKING_LIMIT);
+        for edge in &mut network.edges {
+            edge.cost = -COST_LIMIT;
+        }
+        let furthest = furthest(&network);
+        assert!(furthest <= WORKING_LIMIT);
+        // There each difference is taken from the one before.
+        assert!(family != Family::DoubledCycle || furthest > 200 * COST_LIMIT);
+    }
 }
 
 #[test]

@@ -156,11 +156,12 @@ fn reserved_edges_and_costs_at_their_limits() {
     let with_reserved = |digit: &str| T.replacen("0100030000", &format!("010003000{digit}"), 1);
     assert_eq!(check_network(with_reserved("5").as_bytes()), Ok(()));
     assert_eq!(check_network(with_reserved("6").as_bytes()), Err(3));
-    let with_cost = |cost: i32| T.replacen("00000007", &format!("{cost:08x}"), 1);
-    assert_eq!(check_network(with_cost(1_000_000_000).as_bytes()), Ok(()));
-    assert_eq!(check_network(with_cost(1_000_000_001).as_bytes()), Err(5));
-    assert_eq!(check_network(with_cost(-1_000_000_000).as_bytes()), Ok(()));
-    assert_eq!(check_network(with_cost(-1_000_000_001).as_bytes()), Err(5));
+    let checked = |cost: &str| check_network(T.replacen("0000000000000007", cost, 1).as_bytes());
+    // 1,000,000,000,000 on both sides of zero, and one more.
+    assert_eq!(checked("000000e8d4a51000"), Ok(()));
+    assert_eq!(checked("000000e8d4a51001"), Err(5));
+    assert_eq!(checked("ffffff172b5af000"), Ok(()));
+    assert_eq!(checked("ffffff172b5aefff"), Err(5));
 }
 
 #[test]

@@ -2,7 +2,8 @@
 
 mod common;
 
-use common::{network, T};
+use common::{lines_replaced, network, T};
+use second::texts::COST_LIMIT;
 use second::{
     audit, check_chain, check_network, read_chain, read_list, read_network, write_chain,
     write_list, write_network, write_refusal, Chain, Network, Step,
@@ -10,11 +11,7 @@ use second::{
 
 /// The printed network with some of its lines replaced.
 fn t_with(lines: &[(usize, &str)]) -> Vec<u8> {
-    let mut all: Vec<&str> = T.lines().collect();
-    for &(place, line) in lines {
-        all[place] = line;
-    }
-    (all.join("\n") + "\n").into_bytes()
+    lines_replaced(T, lines)
 }
 
 #[test]
@@ -35,12 +32,12 @@ fn the_head_before_everything_else() {
 
 #[test]
 fn edge_frames_in_order() {
-    let dear = "020000000000013b9aca01";
+    let dear = "02000000000001000000e8d4a51001";
     assert_eq!(check_network(&t_with(&[(1, dear), (2, "02")])), Err(5));
     assert_eq!(check_network(&t_with(&[(1, "02"), (2, dear)])), Err(1));
-    let dear_and_swapped = "020000000100003b9aca01";
+    let dear_and_swapped = "02000000010000000000e8d4a51001";
     assert_eq!(check_network(&t_with(&[(1, dear_and_swapped)])), Err(4));
-    let last_dear = "020005000100023b9aca01";
+    let last_dear = "02000500010002000000e8d4a51001";
     let text = t_with(&[(6, last_dear)]);
     assert_eq!(check_network(&text), Err(5));
     assert_eq!(check_network(&text[..text.len() - 1]), Err(1));
@@ -49,7 +46,7 @@ fn edge_frames_in_order() {
 
 #[test]
 fn bytes_left_over_before_degrees_and_cuts() {
-    let uneven = t_with(&[(6, "0200050000000200000003")]);
+    let uneven = t_with(&[(6, "020005000000020000000000000003")]);
     assert_eq!(check_network(&uneven), Err(6));
     assert_eq!(check_network(&[&uneven[..], b"0"].concat()), Err(1));
     // Islands and uneven degrees: 6 beats 7.
@@ -60,7 +57,7 @@ fn bytes_left_over_before_degrees_and_cuts() {
 
 #[test]
 fn the_network_before_the_chain_and_frames_in_order() {
-    let uneven = t_with(&[(6, "0200050000000200000003")]);
+    let uneven = t_with(&[(6, "020005000000020000000000000003")]);
     assert_eq!(check_chain(&uneven, b"junk"), Err(6));
     assert_eq!(check_chain(T.as_bytes(), b""), Err(1));
     assert_eq!(check_chain(T.as_bytes(), b"03000200040005\njunk"), Err(8));
@@ -94,10 +91,10 @@ fn the_other_end_may_be_split() {
 
 #[test]
 fn the_audit_takes_networks_that_are_not_accepted() {
-    let uneven = t_with(&[(6, "0200050000000200000003")]);
+    let uneven = t_with(&[(6, "020005000000020000000000000003")]);
     assert!(audit(&uneven, b"").is_ok());
     assert_eq!(audit(&[&uneven[..], b"\n"].concat(), b"junk"), Err(1));
-    let dear = t_with(&[(1, "020000000000013b9aca01")]);
+    let dear = t_with(&[(1, "02000000000001000000e8d4a51001")]);
     assert_eq!(audit(&dear, b"junk"), Err(5));
     assert_eq!(audit(T.as_bytes(), b"050006\njunk"), Err(14));
     assert_eq!(audit(T.as_bytes(), b"050003\n050003\n"), Err(14));
@@ -133,7 +130,7 @@ fn writers_refuse_in_the_readers_order() {
     assert_eq!(write_network(&meaning), Err(3));
     meaning.reserved = 5;
     assert_eq!(write_network(&meaning), Err(1));
-    meaning.edges[4].cost = -1_000_000_001;
+    meaning.edges[4].cost = -COST_LIMIT - 1;
     assert_eq!(write_network(&meaning), Err(5));
     meaning.edges[4].low = 2;
     assert_eq!(write_network(&meaning), Err(4));

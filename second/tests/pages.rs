@@ -10,6 +10,7 @@ use second::generate::{self, ListStyle, NetworkAim, PrintedCosts, Rng};
 use second::lengths::{self, fits, LONGEST_PAGE};
 use second::page::LINE_LENGTH;
 use second::properties::judge_page;
+use second::texts::COST_LIMIT;
 use second::{check_network, plan, print_page, read_kept, read_network, write_list, Refusal};
 
 /// The page of a list over a network text.
@@ -92,22 +93,22 @@ fn costs_on_both_sides_of_zero() {
 
 #[test]
 fn costs_at_their_limits() {
-    let limit = 1_000_000_000;
+    let limit = COST_LIMIT;
     let costs = [limit, -limit, limit - 1, 1 - limit];
     let network = network_text(2, 0, &[(0, 1); 4], &costs);
     let page = [
-        "     0     0     1        1000000000\n",
-        "     1     0     1       -1000000000\n",
-        "     2     0     1         999999999\n",
-        "     3     0     1        -999999999\n",
+        "     0     0     1     1000000000000\n",
+        "     1     0     1    -1000000000000\n",
+        "     2     0     1      999999999999\n",
+        "     3     0     1     -999999999999\n",
         "                                   0\n",
     ]
     .concat();
     assert_eq!(printed(&network, 2, &[0, 1, 2, 3]), page);
     let page = [
-        "     1     0     1       -1000000000\n",
-        "     3     0     1        -999999999\n",
-        "                         -1999999999\n",
+        "     1     0     1    -1000000000000\n",
+        "     3     0     1     -999999999999\n",
+        "                      -1999999999999\n",
     ]
     .concat();
     assert_eq!(printed(&network, 2, &[1, 3]), page);
@@ -121,8 +122,8 @@ fn the_longest_pages() {
         .collect();
     let all: Vec<u16> = (0..512).collect();
     for (cost, written) in [
-        (1_000_000_000, [" 1000000000", " 512000000000"]),
-        (-1_000_000_000, ["-1000000000", "-512000000000"]),
+        (COST_LIMIT, [" 1000000000000", " 512000000000000"]),
+        (-COST_LIMIT, ["-1000000000000", "-512000000000000"]),
     ] {
         let network = network_text(256, 0, &ends, &[cost; 512]);
         let page = printed(&network, 256, &all);
@@ -130,11 +131,11 @@ fn the_longest_pages() {
         let lines: Vec<&str> = page.lines().collect();
         let [cost, sum] = written;
         assert_eq!(lines.len(), 513);
-        assert_eq!(lines[9], format!("     9     9    10       {cost}"));
-        assert_eq!(lines[99], format!("    99    99   100       {cost}"));
-        assert_eq!(lines[255], format!("   255     0   255       {cost}"));
-        assert_eq!(lines[510], format!("   510   254   255       {cost}"));
-        assert_eq!(lines[512], format!("                       {sum}"));
+        assert_eq!(lines[9], format!("     9     9    10    {cost}"));
+        assert_eq!(lines[99], format!("    99    99   100    {cost}"));
+        assert_eq!(lines[255], format!("   255     0   255    {cost}"));
+        assert_eq!(lines[510], format!("   510   254   255    {cost}"));
+        assert_eq!(lines[512], format!("                    {sum}"));
     }
 }
 
@@ -182,7 +183,7 @@ fn the_network_before_the_list_and_the_list_before_the_buffer() {
         (changed("0100030000", "0100010000"), Some(2)),
         (changed("0100030000", "0100030006"), Some(3)),
         (changed("020001", "020002"), Some(4)),
-        (changed("00000007", "3b9aca01"), Some(5)),
+        (changed("0000000000000007", "000000e8d4a51001"), Some(5)),
         // A vertex without four edges, which isn't looked at.
         (changed("02000100000001", "02000100000002"), None),
     ];
@@ -283,7 +284,7 @@ fn sums_of_every_width() {
         let (_, sum) = page.trim_end().rsplit_once(' ').unwrap();
         met.borrow_mut().insert((sum.starts_with('-'), sum.len()));
     });
-    let above = (1..=12).map(|width| (false, width));
-    let below = (2..=13).map(|width| (true, width));
+    let above = (1..=15).map(|width| (false, width));
+    let below = (2..=16).map(|width| (true, width));
     assert_eq!(met.into_inner(), above.chain(below).collect());
 }

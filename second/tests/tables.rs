@@ -3,19 +3,12 @@
 
 mod common;
 
-use common::network_text;
+use common::{lines_replaced, network_text, TRIANGLE};
 use second::lengths::LONGEST_TABLE_TEXT;
+use second::texts::COST_LIMIT;
 use second::{
     check_table, plan, plan_table, read_table, table_network, write_table, Refusal, Span, Table,
 };
-
-/// Three vertices, two edges between any two of them.
-const TRIANGLE: &str = "\
-08000300000003
-09000000010200000007
-09000000020200000001
-09000100020200000006
-";
 
 /// Five vertices, one edge between any two of them: as many spans as edges.
 fn complete() -> Table {
@@ -35,11 +28,7 @@ fn complete() -> Table {
 
 /// The triangle with some of its lines replaced.
 fn triangle_with(lines: &[(usize, &str)]) -> Vec<u8> {
-    let mut all: Vec<&str> = TRIANGLE.lines().collect();
-    for &(place, line) in lines {
-        all[place] = line;
-    }
-    (all.join("\n") + "\n").into_bytes()
+    lines_replaced(TRIANGLE, lines)
 }
 
 /// All three services refuse the text; 6 and 7 are none of the last one's.
@@ -77,11 +66,11 @@ fn the_triangle() {
 
 #[test]
 fn heads_at_their_limits() {
-    assert_refused(b"08000100000001\n09000000010200000007\n", 2);
-    assert_refused(b"08010100000001\n09000000010200000007\n", 2);
-    assert_accepted(b"08000200000001\n09000000010400000007\n");
-    assert_accepted(b"08000200030001\n09000000010400000007\n");
-    assert_refused(b"08000200040001\n09000000010400000007\n", 3);
+    assert_refused(b"08000100000001\n0900000001020000000000000007\n", 2);
+    assert_refused(b"08010100000001\n0900000001020000000000000007\n", 2);
+    assert_accepted(b"08000200000001\n0900000001040000000000000007\n");
+    assert_accepted(b"08000200030001\n0900000001040000000000000007\n");
+    assert_refused(b"08000200040001\n0900000001040000000000000007\n", 3);
     assert_accepted(&triangle_with(&[(0, "08000300050003")]));
     assert_refused(&triangle_with(&[(0, "08000300060003")]), 3);
 }
@@ -94,7 +83,7 @@ fn the_largest_table() {
             low: a.min(b),
             high: a.max(b),
             weight: 1,
-            cost: -1_000_000_000,
+            cost: -COST_LIMIT,
         })
         .collect();
     spans.sort_by_key(|span| (span.low, span.high));
@@ -143,7 +132,7 @@ fn as_many_spans_as_edges_and_one_more() {
 
 #[test]
 fn weights_at_their_limits() {
-    let with = |weight: &str| format!("08000200000001\n0900000001{weight}00000007\n");
+    let with = |weight: &str| format!("08000200000001\n0900000001{weight}0000000000000007\n");
     for weight in ["00", "05", "06", "80", "ff"] {
         assert_refused(with(weight).as_bytes(), 15);
     }
@@ -152,8 +141,8 @@ fn weights_at_their_limits() {
         assert_refused(with(weight).as_bytes(), 16);
     }
     // A span of each weight; the degrees are wrong.
-    let every = b"08000500000004\n09000000010100000000\n09000000020200000000\n\
-        09000000030300000000\n09000000040400000000\n";
+    let every = b"08000500000004\n0900000001010000000000000000\n0900000002020000000000000000\n\
+        0900000003030000000000000000\n0900000004040000000000000000\n";
     assert_refused(every, 6);
     let weights: Vec<u8> = read_table(every)
         .unwrap()
@@ -166,14 +155,17 @@ fn weights_at_their_limits() {
 
 #[test]
 fn totals_on_both_sides() {
-    let lighter = triangle_with(&[(2, "09000000020100000001")]);
+    let lighter = triangle_with(&[(2, "0900000002010000000000000001")]);
     assert_refused(&lighter, 16);
-    let heavier = triangle_with(&[(2, "09000000020300000001")]);
+    let heavier = triangle_with(&[(2, "0900000002030000000000000001")]);
     assert_refused(&heavier, 16);
     assert_refused(b"08000300000000\n", 16);
     assert_refused(b"08000300000000\n\n", 1);
     // The right total, with wrong degrees.
-    let uneven = triangle_with(&[(1, "09000000010300000007"), (2, "09000000020100000001")]);
+    let uneven = triangle_with(&[
+        (1, "0900000001030000000000000007"),
+        (2, "0900000002010000000000000001"),
+    ]);
     assert_refused(&uneven, 6);
 }
 
@@ -181,9 +173,9 @@ fn totals_on_both_sides() {
 fn pairs_rise() {
     let with = |second: &str, third: &str| triangle_with(&[(2, second), (3, third)]);
     let [near, far, across] = [
-        "09000000010200000007",
-        "09000000020200000001",
-        "09000100020200000006",
+        "0900000001020000000000000007",
+        "0900000002020000000000000001",
+        "0900010002020000000000000006",
     ];
     assert_accepted(&with(far, across));
     // Equal to the one before.
@@ -204,32 +196,31 @@ fn pairs_rise() {
 
 #[test]
 fn ends_and_costs_at_their_limits() {
-    assert_refused(&triangle_with(&[(3, "09000100030200000006")]), 4);
-    assert_refused(&triangle_with(&[(3, "09000200020200000006")]), 4);
-    assert_refused(&triangle_with(&[(3, "09000200010200000006")]), 4);
-    assert_refused(&triangle_with(&[(3, "090001ffff0200000006")]), 4);
-    assert_refused(&triangle_with(&[(1, "09000000000200000007")]), 4);
-    let with_cost = |cost: i32| triangle_with(&[(2, &format!("090000000202{cost:08x}"))]);
-    for limit in [1_000_000_000, -1_000_000_000] {
-        assert_accepted(&with_cost(limit));
-        assert_refused(&with_cost(limit + limit.signum()), 5);
-    }
-    assert_refused(&with_cost(i32::MAX), 5);
-    assert_refused(&with_cost(i32::MIN), 5);
+    assert_refused(&triangle_with(&[(3, "0900010003020000000000000006")]), 4);
+    assert_refused(&triangle_with(&[(3, "0900020002020000000000000006")]), 4);
+    assert_refused(&triangle_with(&[(3, "0900020001020000000000000006")]), 4);
+    assert_refused(&triangle_with(&[(3, "090001ffff020000000000000006")]), 4);
+    assert_refused(&triangle_with(&[(1, "0900000000020000000000000007")]), 4);
+    let with_cost = |cost: &str| triangle_with(&[(2, &["090000000202", cost].concat())]);
+    // 1,000,000,000,000 on both sides of zero, and one more.
+    assert_accepted(&with_cost("000000e8d4a51000"));
+    assert_refused(&with_cost("000000e8d4a51001"), 5);
+    assert_accepted(&with_cost("ffffff172b5af000"));
+    assert_refused(&with_cost("ffffff172b5aefff"), 5);
 }
 
 #[test]
 fn degrees_then_cuts() {
     // Threefold spans with one edge each way across: a cut of two.
-    let across = b"08000400000004\n09000000010300000000\n09000000020100000000\n\
-        09000100030100000000\n09000200030300000000\n";
+    let across = b"08000400000004\n0900000001030000000000000000\n0900000002010000000000000000\n\
+        0900010003010000000000000000\n0900020003030000000000000000\n";
     assert_refused(across, 7);
     // Two islands of weight four.
-    let islands = b"08000400000002\n09000000010400000000\n09000200030400000000\n";
+    let islands = b"08000400000002\n0900000001040000000000000000\n0900020003040000000000000000\n";
     assert_refused(islands, 7);
     // Uneven islands: 6 beats 7.
-    let uneven = b"08000400000003\n09000000010400000000\n09000000020100000000\n\
-        09000200030300000000\n";
+    let uneven = b"08000400000003\n0900000001040000000000000000\n0900000002010000000000000000\n\
+        0900020003030000000000000000\n";
     assert_refused(uneven, 6);
 }
 
@@ -253,31 +244,31 @@ fn the_head_before_everything_else() {
 fn span_frames_in_order() {
     // 4 before 15 before 5, and each before the form of the next frame.
     let broken = (2, "09");
-    let ends_weight_cost = "0900010001ff7fffffff";
+    let ends_weight_cost = "0900010001ff7fffffffffffffff";
     assert_refused(&triangle_with(&[(1, ends_weight_cost), broken]), 4);
-    let weight_cost = "0900000001057fffffff";
+    let weight_cost = "0900000001057fffffffffffffff";
     assert_refused(&triangle_with(&[(1, weight_cost), broken]), 15);
-    let cost = "0900000001047fffffff";
+    let cost = "0900000001047fffffffffffffff";
     assert_refused(&triangle_with(&[(1, cost), broken]), 5);
     assert_refused(&triangle_with(&[broken]), 1);
     // An earlier pair, wrong ends and a wrong cost.
-    let wrong_ends = (3, "0900000000027fffffff");
+    let wrong_ends = (3, "0900000000027fffffffffffffff");
     assert_refused(&triangle_with(&[wrong_ends]), 4);
-    let pair_cost = (3, "0900000001027fffffff");
+    let pair_cost = (3, "0900000001027fffffffffffffff");
     assert_refused(&triangle_with(&[pair_cost]), 15);
     // The form of a frame before its numbers.
-    let text = triangle_with(&[(3, "0900010002ff7fffffff")]);
+    let text = triangle_with(&[(3, "0900010002ff7fffffffffffffff")]);
     assert_refused(&text, 15);
     assert_refused(&text[..text.len() - 1], 1);
     for broken in [
         "",
-        "0900010002020000006",
-        "090001000202000006",
-        "0900010002020000000600",
-        "0900010002020000000A",
-        "09000100020200000006\r",
-        "08000100020200000006",
-        "0200020001000200000006",
+        "090001000202000000000000006",
+        "09000100020200000000000006",
+        "090001000202000000000000000600",
+        "090001000202000000000000000A",
+        "0900010002020000000000000006\r",
+        "0800010002020000000000000006",
+        "020002000100020000000000000006",
     ] {
         assert_refused(&triangle_with(&[(3, broken)]), 1);
     }
@@ -291,15 +282,15 @@ fn bytes_left_over_before_totals_and_totals_before_degrees() {
         b"0",
         b"\r\n",
         b"\0",
-        b"09000100020200000006\n",
+        b"0900010002020000000000000006\n",
         text,
     ] {
         assert_refused(&[text, left_over].concat(), 1);
-        let lighter = triangle_with(&[(2, "09000000020100000001")]);
+        let lighter = triangle_with(&[(2, "0900000002010000000000000001")]);
         assert_refused(&[&lighter[..], left_over].concat(), 1);
     }
     // A wrong total beats the wrong degrees that come with it.
-    assert_refused(&triangle_with(&[(2, "09000000020100000001")]), 16);
+    assert_refused(&triangle_with(&[(2, "0900000002010000000000000001")]), 16);
     // A span that the head doesn't count is left over; one that it counts too much is missing.
     assert_refused(&triangle_with(&[(0, "08000300000002")]), 1);
     assert_refused(&triangle_with(&[(0, "08000300000004")]), 1);
@@ -334,7 +325,7 @@ fn the_writer_refuses_in_the_readers_order() {
     };
     assert_eq!(changed(&crowd_ends), Err(16));
     let cost = |table: &mut Table| {
-        table.spans[4].cost = 1_000_000_001;
+        table.spans[4].cost = COST_LIMIT + 1;
         table.spans.pop();
     };
     assert_eq!(changed(&cost), Err(5));

@@ -16,7 +16,7 @@ pub enum Refusal {
     /// An edge out of its place, or the ends of an edge or a span are not two vertices of the network, the lower one
     /// first.
     Edge = 4,
-    /// A cost below -1000000000 or above 1000000000.
+    /// A cost below -1000000000000 or above 1000000000000.
     Cost = 5,
     /// A vertex without degree 4.
     Degree = 6,

@@ -16,6 +16,9 @@ fn meaning() -> Network {
     }
 }
 
+/// The digits of the first edge's cost.
+const SEVEN: &str = "0000000000000007";
+
 /// The network with some bytes exchanged for others.
 fn changed(from: &str, to: &str) -> Vec<u8> {
     let text = String::from_utf8(NETWORK.to_vec()).expect("digits");
@@ -39,7 +42,7 @@ fn broken_texts() -> [(Vec<u8>, Refusal); 5] {
         (changed("0100030000", "0100010000"), Refusal::Vertices),
         (changed("0100030000", "0100030006"), Refusal::Reserved),
         (changed("020001", "020000"), Refusal::Edge),
-        (changed("00000007", "7fffffff"), Refusal::Cost),
+        (changed(SEVEN, "000000e8d4a51001"), Refusal::Cost),
     ]
 }
 
@@ -54,6 +57,59 @@ fn a_network_is_refused_by_name() {
         assert_eq!(thinning::plan(&text), Err(refusal));
         assert_eq!(thinning::check_chain(&text, CHAIN), Err(refusal));
     }
+}
+
+#[test]
+fn costs_up_to_their_limits_are_read_written_and_planned() {
+    let limit = 1_000_000_000_000;
+    for (digits, cost) in [
+        ("000000e8d4a51000", limit),
+        ("ffffff172b5af000", -limit),
+        // In four bytes these would be -1 and 0.
+        ("00000000ffffffff", 4_294_967_295),
+        ("ffffffff00000000", -4_294_967_296),
+    ] {
+        let text = changed(SEVEN, digits);
+        let mut due = meaning();
+        due.cost[0] = cost;
+        assert_eq!(thinning::read_network(&text).as_ref(), Ok(&due));
+        assert_eq!(thinning::write_network(&due).as_ref(), Ok(&text));
+        assert!(thinning::plan(&text).is_ok());
+        let page = format!("     0     0     1{cost:>18}\n{cost:>36}\n");
+        let printed = thinning::print_page(&text, b"050000\n");
+        assert_eq!(printed.as_deref(), Ok(page.as_bytes()));
+    }
+}
+
+#[test]
+fn costs_beyond_their_limits_are_refused() {
+    for digits in [
+        "000000e8d4a51001",
+        "ffffff172b5aefff",
+        "7fffffffffffffff",
+        "8000000000000000",
+        "0000010000000001",
+    ] {
+        let text = changed(SEVEN, digits);
+        assert_eq!(thinning::check_network(&text), Err(Refusal::Cost));
+        assert_eq!(thinning::read_network(&text), Err(Refusal::Cost));
+        assert_eq!(thinning::plan(&text), Err(Refusal::Cost));
+        assert_eq!(thinning::audit(&text, b""), Err(Refusal::Cost));
+    }
+    for cost in [1_000_000_000_001, -1_000_000_000_001, i64::MAX, i64::MIN] {
+        let mut network = meaning();
+        network.cost[0] = cost;
+        assert_eq!(thinning::write_network(&network), Err(Refusal::Cost));
+    }
+}
+
+#[test]
+fn a_cost_of_four_bytes_is_refused_for_its_form() {
+    let text = changed(SEVEN, "00000007");
+    assert_eq!(thinning::check_network(&text), Err(Refusal::Form));
+    assert_eq!(thinning::read_network(&text), Err(Refusal::Form));
+    assert_eq!(thinning::plan(&text), Err(Refusal::Form));
+    assert_eq!(thinning::audit(&text, b""), Err(Refusal::Form));
 }
 
 #[test]
@@ -125,11 +181,11 @@ fn a_list_of_the_printed_network_is_printed() {
 
 #[test]
 fn costs_below_zero_are_printed_with_a_minus() {
-    let network = changed("00000004", "c4653600");
+    let network = changed("0000000000000004", "ffffff172b5af000");
     let page = [
-        "     1     0     1       -1000000000\n",
+        "     1     0     1    -1000000000000\n",
         "     5     1     2                 3\n",
-        "                          -999999997\n",
+        "                       -999999999997\n",
     ]
     .concat();
     let printed = thinning::print_page(&network, b"050001\n050005\n");

@@ -4,19 +4,22 @@ use thinning::{raw, Refusal};
 
 const TABLE: &str = "\
 08000300000003
-09000000010200000007
-09000000020200000001
-09000100020200000006
+0900000001020000000000000007
+0900000002020000000000000001
+0900010002020000000000000006
 ";
 const NETWORK: &[u8] = b"0100030000\n\
-    0200000000000100000007\n\
-    0200010000000100000007\n\
-    0200020000000200000001\n\
-    0200030000000200000001\n\
-    0200040001000200000006\n\
-    0200050001000200000006\n";
+    020000000000010000000000000007\n\
+    020001000000010000000000000007\n\
+    020002000000020000000000000001\n\
+    020003000000020000000000000001\n\
+    020004000100020000000000000006\n\
+    020005000100020000000000000006\n";
 const CHAIN: &[u8] = b"03000100040005\n040003\n";
 const KEPT: &[u8] = b"050001\n050002\n050005\n06000000000000000e0000000000000015\n";
+
+/// The digits of the second span's cost.
+const ONE: &str = "0000000000000001";
 
 /// The table with some digits exchanged for others.
 fn changed(from: &str, to: &str) -> Vec<u8> {
@@ -47,7 +50,11 @@ fn a_table_is_refused_by_name() {
         (changed("0900010002", "0900010003"), Refusal::Edge),
         (changed("0900000002", "0900000001"), Refusal::Span),
         (changed("090000000202", "090000000205"), Refusal::Span),
-        (changed("0200000001", "027fffffff"), Refusal::Cost),
+        (changed(ONE, "000000e8d4a51001"), Refusal::Cost),
+        (changed(ONE, "ffffff172b5aefff"), Refusal::Cost),
+        (changed(ONE, "7fffffffffffffff"), Refusal::Cost),
+        (changed(ONE, "8000000000000000"), Refusal::Cost),
+        (changed(ONE, "00000001"), Refusal::Form),
         (changed("090000000202", "090000000203"), Refusal::Total),
     ];
     for (text, refusal) in cases {
@@ -58,9 +65,26 @@ fn a_table_is_refused_by_name() {
 }
 
 #[test]
+fn costs_up_to_their_limits_are_those_of_the_network() {
+    for digits in [
+        "000000e8d4a51000",
+        "ffffff172b5af000",
+        "00000000ffffffff",
+        "ffffffff00000000",
+    ] {
+        let text = changed(ONE, digits);
+        let network = thinning::table_network(&text).expect("it reads");
+        let due = String::from_utf8(NETWORK.to_vec()).expect("digits");
+        assert_eq!(network, due.replace(ONE, digits).into_bytes());
+        assert_eq!(thinning::plan_table(&text), thinning::plan(&network));
+        assert_eq!(thinning::check_table(&text), Ok(()));
+    }
+}
+
+#[test]
 fn degrees_and_cuts_are_not_looked_at_where_a_network_is_written() {
-    let uneven = b"08000300000002\n09000000010300000000\n09000000020300000000\n";
-    let islands = b"08000400000002\n09000000010400000000\n09000200030400000000\n";
+    let uneven = b"08000300000002\n0900000001030000000000000000\n0900000002030000000000000000\n";
+    let islands = b"08000400000002\n0900000001040000000000000000\n0900020003040000000000000000\n";
     let cases = [(&uneven[..], Refusal::Degree), (islands, Refusal::Cut)];
     for (text, refusal) in cases {
         assert_eq!(thinning::check_table(text), Err(refusal));

@@ -6,12 +6,14 @@
 
 use super::costs::beyond_limits;
 use super::damage::IN_NO_LINE;
-use super::networks::{edge_between, text, two_below, Ends};
+use super::networks::{edge_between, edge_fields, text, two_below, Ends};
+use super::shapes::{EDGE_AS_SPAN, NARROW_EDGE};
 use super::{damage, CostStyle, Damage, Rng};
 use crate::lengths::edge_column;
 use crate::lines::{EDGE, HEAD};
 use crate::refusal::{Refusal, BAD_COST, BAD_EDGE, BROKEN_TEXT, NOT_FOUR_REGULAR};
-use crate::texts::{as_field, Edge, Network};
+use crate::tables::LEAST_WEIGHT;
+use crate::texts::{as_field, Network};
 
 /// The fewest edges at a vertex that are too many.
 pub const FEWEST_CROWDING: usize = 5;
@@ -101,6 +103,10 @@ pub enum FrameFault {
     OddDigits,
     /// One byte of the frame more or less.
     WrongLength,
+    /// The cost in four bytes.
+    NarrowCost,
+    /// The fields of a span.
+    SpanFields,
     /// The text ends within the line.
     CutLine,
     /// The text ends before the line.
@@ -113,7 +119,7 @@ pub enum FrameFault {
 
 impl FrameFault {
     /// Every fault.
-    pub const ALL: [FrameFault; 13] = [
+    pub const ALL: [FrameFault; 15] = [
         FrameFault::EdgeNumber,
         FrameFault::Loop,
         FrameFault::ExchangedEnds,
@@ -123,6 +129,8 @@ impl FrameFault {
         FrameFault::WrongKind,
         FrameFault::OddDigits,
         FrameFault::WrongLength,
+        FrameFault::NarrowCost,
+        FrameFault::SpanFields,
         FrameFault::CutLine,
         FrameFault::MissingFrame,
         FrameFault::LeftOver,
@@ -141,6 +149,8 @@ impl FrameFault {
             | FrameFault::WrongKind
             | FrameFault::OddDigits
             | FrameFault::WrongLength
+            | FrameFault::NarrowCost
+            | FrameFault::SpanFields
             | FrameFault::CutLine
             | FrameFault::MissingFrame
             | FrameFault::LeftOver => BROKEN_TEXT,
@@ -150,7 +160,7 @@ impl FrameFault {
 }
 
 /// The text of a network with a fault in the frame of the edge at a place. What follows wrong
-/// numbers may be damaged as well.
+/// numbers or wrong fields may be damaged as well.
 pub fn faulty_text(rng: &mut Rng, network: &Network, fault: FrameFault, place: usize) -> Vec<u8> {
     let whole = text(network);
     let start = HEAD.line_length() + place * EDGE.line_length();
@@ -169,8 +179,10 @@ pub fn faulty_text(rng: &mut Rng, network: &Network, fault: FrameFault, place: u
         | FrameFault::Loop
         | FrameFault::ExchangedEnds
         | FrameFault::MissingEnd
-        | FrameFault::Cost => {
-            let line = wrong_numbers(rng, fault, network, place);
+        | FrameFault::Cost
+        | FrameFault::NarrowCost
+        | FrameFault::SpanFields => {
+            let line = wrong_frame(rng, fault, network, place);
             let damaged = rng.once_in(2).then(|| damage(rng, behind));
             [front, &line, damaged.as_deref().unwrap_or(behind)].concat()
         }
@@ -200,10 +212,10 @@ fn broken_line(rng: &mut Rng, fault: FrameFault, line: &[u8]) -> Vec<u8> {
     broken
 }
 
-/// The frame of the edge at a place with a wrong number, perhaps with a wrong cost beside it.
-fn wrong_numbers(rng: &mut Rng, fault: FrameFault, network: &Network, place: usize) -> Vec<u8> {
-    let Edge { low, high, cost } = network.edges[place];
-    let mut fields = [as_field(place), low.into(), high.into(), cost];
+/// The frame of the edge at a place with a wrong number or with other fields, perhaps with a wrong
+/// cost beside that.
+fn wrong_frame(rng: &mut Rng, fault: FrameFault, network: &Network, place: usize) -> Vec<u8> {
+    let mut fields = edge_fields(network, place);
     let [number, low, high, cost] = &mut fields;
     let vertices = as_field(network.vertices);
     match fault {
@@ -230,6 +242,13 @@ fn wrong_numbers(rng: &mut Rng, fault: FrameFault, network: &Network, place: usi
         *cost = beyond_limits(rng);
     }
     let mut line = Vec::new();
-    EDGE.write(fields, &mut line);
+    match fault {
+        FrameFault::NarrowCost => NARROW_EDGE.write(fields, &mut line),
+        FrameFault::SpanFields => {
+            let [_, low, high, cost] = fields;
+            EDGE_AS_SPAN.write([low, high, LEAST_WEIGHT.into(), cost], &mut line);
+        }
+        _ => EDGE.write(fields, &mut line),
+    }
     line
 }

@@ -1,7 +1,6 @@
 //! Meanings to be written, of which many have to be turned down.
 
-use super::{list, network, size, Rng};
-use crate::texts::COST_LIMIT;
+use super::{list, network, size, CostAim, Rng};
 
 /// A network's meaning by columns, which may differ in length.
 #[derive(Clone, Debug, PartialEq, Eq)]
@@ -51,7 +50,7 @@ pub fn network_columns(rng: &mut Rng) -> NetworkColumns {
             1 => columns.reserved = rng.pick(&[2 * size, 2 * size - 1, 65_536, usize::MAX]),
             2 => change(&mut columns.low, place, changed_end(rng, size)),
             3 => change(&mut columns.high, place, changed_end(rng, size)),
-            4 => change(&mut columns.cost, place, changed_cost(rng)),
+            4 => change(&mut columns.cost, place, rng.pick(&CostAim::ALL).cost(rng)),
             5 => change_length(rng, &mut columns.low, 0),
             6 => change_length(rng, &mut columns.high, 1),
             _ => change_length(rng, &mut columns.cost, 0),
@@ -110,19 +109,6 @@ fn changed_count(rng: &mut Rng, count: usize) -> usize {
 fn changed_end(rng: &mut Rng, size: usize) -> u16 {
     let size = u16::try_from(size).expect("sizes are small");
     rng.pick(&[0, 1, size - 1, size, 256, 65_535])
-}
-
-fn changed_cost(rng: &mut Rng) -> i64 {
-    let limit = COST_LIMIT;
-    rng.pick(&[
-        limit,
-        -limit,
-        limit + 1,
-        -limit - 1,
-        1 << 32,
-        i64::MAX,
-        i64::MIN,
-    ])
 }
 
 fn any_number(rng: &mut Rng) -> u16 {

@@ -2,14 +2,16 @@
 
 use super::costs::beyond_limits;
 use super::damage::break_line;
+use super::shapes::{EDGE_AS_SPAN, NARROW_EDGE};
 use super::{damage, CostStyle, Rng};
 use crate::cuts::Multigraph;
-use crate::lines::{EDGE, HEAD};
+use crate::lines::{Shape, EDGE, HEAD};
 use crate::refusal::{
     Refusal, BAD_COST, BAD_EDGE, BAD_RESERVED, BAD_VERTEX_COUNT, BROKEN_TEXT, NOT_FOUR_REGULAR,
     SMALL_CUT,
 };
-use crate::texts::{write_network, Edge, Network, COST_LIMIT, MOST_VERTICES};
+use crate::tables::LEAST_WEIGHT;
+use crate::texts::{as_field, write_network, Edge, Network, COST_LIMIT, MOST_VERTICES};
 
 /// A count of vertices: mostly small, now and then up to the limit.
 pub fn size(rng: &mut Rng) -> usize {
@@ -392,7 +394,22 @@ pub fn text(network: &Network) -> Vec<u8> {
     write_network(network).expect("generated networks keep the limits")
 }
 
-/// A fault of a network's numbers to aim at.
+/// The frames of a network, whatever its numbers.
+pub fn frames(network: &Network) -> Vec<u8> {
+    frames_of(network, EDGE)
+}
+
+/// The frames of a network with edges of this shape, which has the low bytes of their numbers.
+fn frames_of(network: &Network, shape: Shape<4>) -> Vec<u8> {
+    let mut text = Vec::new();
+    HEAD.write(head_fields(network), &mut text);
+    for place in 0..network.edges.len() {
+        shape.write(edge_fields(network, place), &mut text);
+    }
+    text
+}
+
+/// A fault of a network's numbers, or of the fields of its frames, to aim at.
 #[derive(Clone, Copy, Debug, PartialEq, Eq)]
 pub enum NetworkAim {
     /// Too few or too many vertices.
@@ -407,6 +424,12 @@ pub enum NetworkAim {
     EndOrder,
     /// A cost beyond a limit.
     Cost,
+    /// The cost of one edge in four bytes, of the others in eight.
+    NarrowCost,
+    /// The costs of all edges in four bytes.
+    NarrowCosts,
+    /// An edge with the fields of a span.
+    SpanFields,
     /// A vertex without four edges.
     Degree,
     /// A cut with too few edges.
@@ -415,13 +438,16 @@ pub enum NetworkAim {
 
 impl NetworkAim {
     /// Every aim.
-    pub const ALL: [NetworkAim; 8] = [
+    pub const ALL: [NetworkAim; 11] = [
         NetworkAim::VertexCount,
         NetworkAim::Reserved,
         NetworkAim::EdgeNumber,
         NetworkAim::End,
         NetworkAim::EndOrder,
         NetworkAim::Cost,
+        NetworkAim::NarrowCost,
+        NetworkAim::NarrowCosts,
+        NetworkAim::SpanFields,
         NetworkAim::Degree,
         NetworkAim::Cut,
     ];
@@ -432,36 +458,47 @@ impl NetworkAim {
             NetworkAim::Reserved => BAD_RESERVED,
             NetworkAim::EdgeNumber | NetworkAim::End | NetworkAim::EndOrder => BAD_EDGE,
             NetworkAim::Cost => BAD_COST,
+            NetworkAim::NarrowCost | NetworkAim::NarrowCosts | NetworkAim::SpanFields => {
+                BROKEN_TEXT
+            }
             NetworkAim::Degree => NOT_FOUR_REGULAR,
             NetworkAim::Cut => SMALL_CUT,
         }
     }
 }
 
-/// A network text with the given fault, and the refusal that is due. What follows the
+/// A network text with the given fault, and the refusal that is due. What follows a single
 /// faulty frame may be damaged as well.
 pub fn aimed_network(rng: &mut Rng, aim: NetworkAim, vertices: usize) -> (Vec<u8>, Refusal) {
-    let shape = match aim {
-        NetworkAim::Degree => Some(Shapeless::MovedEnd),
-        NetworkAim::Cut => Some(rng.pick(&[Shapeless::TwoAcross, Shapeless::Islands])),
-        _ => None,
+    let text = match aim {
+        NetworkAim::Degree => shapeless(rng, Shapeless::MovedEnd, vertices),
+        NetworkAim::Cut => {
+            let shape = rng.pick(&[Shapeless::TwoAcross, Shapeless::Islands]);
+            shapeless(rng, shape, vertices)
+        }
+        NetworkAim::NarrowCosts => frames_of(&network(rng, vertices), NARROW_EDGE),
+        _ => {
+            let network = network(rng, vertices);
+            faulty_frame(rng, aim, &network)
+        }
     };
-    if let Some(shape) = shape {
-        let graph = shape.multigraph(rng, vertices);
-        let style = rng.pick(&CostStyle::ALL);
-        return (text(&dress(rng, &graph, style)), aim.refusal());
-    }
+    (text, aim.refusal())
+}
 
-    let network = network(rng, vertices);
+/// The text of a network that is refused for its shape.
+fn shapeless(rng: &mut Rng, shape: Shapeless, vertices: usize) -> Vec<u8> {
+    let graph = shape.multigraph(rng, vertices);
+    let style = rng.pick(&CostStyle::ALL);
+    text(&dress(rng, &graph, style))
+}
+
+/// The text of a network with a fault in its head or in any edge's frame.
+fn faulty_frame(rng: &mut Rng, aim: NetworkAim, network: &Network) -> Vec<u8> {
+    let vertices = network.vertices;
     let place = rng.below(network.edges.len());
-    let edge = network.edges[place];
-    let mut head = [as_field(vertices), as_field(network.reserved)];
-    let mut fields = [
-        as_field(place),
-        edge.low.into(),
-        edge.high.into(),
-        edge.cost,
-    ];
+    let mut head = head_fields(network);
+    let mut shape = EDGE;
+    let mut fields = edge_fields(network, place);
     match aim {
         NetworkAim::VertexCount => head[0] = rng.pick(&[0, 1, 257, 258, 512, 65_535]),
         NetworkAim::Reserved => {
@@ -475,13 +512,21 @@ pub fn aimed_network(rng: &mut Rng, aim: NetworkAim, vertices: usize) -> (Vec<u8
         NetworkAim::EndOrder if rng.once_in(2) => fields[1] = fields[2],
         NetworkAim::EndOrder => fields.swap(1, 2),
         NetworkAim::Cost => fields[3] = beyond_limits(rng),
-        NetworkAim::Degree | NetworkAim::Cut => unreachable!("handled above"),
+        NetworkAim::NarrowCost => shape = NARROW_EDGE,
+        NetworkAim::SpanFields => {
+            let [_, low, high, cost] = fields;
+            shape = EDGE_AS_SPAN;
+            fields = [low, high, LEAST_WEIGHT.into(), cost];
+        }
+        NetworkAim::NarrowCosts | NetworkAim::Degree | NetworkAim::Cut => {
+            unreachable!("no single frame is at fault")
+        }
     }
     if matches!(aim, NetworkAim::EdgeNumber | NetworkAim::End) && rng.once_in(3) {
         fields[3] = COST_LIMIT + 1;
     }
 
-    let whole = text(&network);
+    let whole = text(network);
     let mut faulty = Vec::new();
     HEAD.write(head, &mut faulty);
     let in_head = matches!(aim, NetworkAim::VertexCount | NetworkAim::Reserved);
@@ -490,7 +535,7 @@ pub fn aimed_network(rng: &mut Rng, aim: NetworkAim, vertices: usize) -> (Vec<u8
     } else {
         let before = HEAD.line_length() + place * EDGE.line_length();
         faulty.extend_from_slice(&whole[HEAD.line_length()..before]);
-        EDGE.write(fields, &mut faulty);
+        shape.write(fields, &mut faulty);
         before + EDGE.line_length()
     };
     let rest = &whole[behind..];
@@ -499,7 +544,16 @@ pub fn aimed_network(rng: &mut Rng, aim: NetworkAim, vertices: usize) -> (Vec<u8
     } else {
         rest.to_vec()
     });
-    (faulty, aim.refusal())
+    faulty
+}
+
+fn head_fields(network: &Network) -> [i64; 2] {
+    [network.vertices, network.reserved].map(as_field)
+}
+
+pub(super) fn edge_fields(network: &Network, place: usize) -> [i64; 4] {
+    let Edge { low, high, cost } = network.edges[place];
+    [as_field(place), low.into(), high.into(), cost]
 }
 
 /// A network text with a broken line or bytes left over, and the refusal that is due.
@@ -511,8 +565,4 @@ pub fn broken_network(rng: &mut Rng, vertices: usize) -> (Vec<u8>, Refusal) {
         break_line(rng, &mut text);
     }
     (text, BROKEN_TEXT)
-}
-
-fn as_field(size: usize) -> i64 {
-    i64::try_from(size).expect("sizes are small")
 }

@@ -135,7 +135,7 @@ mod tests {
         // One cost goes no further than its limit, and a list's sum no further than all of them.
         assert!(sums.is_subset(&round_numbers(512 * COST_LIMIT)));
         let widths: BTreeSet<usize> = sums.iter().map(|sum| sum.to_string().len()).collect();
-        assert_eq!(widths, (1..=13).collect());
+        assert_eq!(widths, (1..=16).collect());
         let drawn = drawn(PrintedCosts::RoundSum);
         let costs: BTreeSet<i64> = drawn.into_iter().map(|(_, cost)| cost).collect();
         assert!(costs.len() > 10_000);
@@ -145,7 +145,7 @@ mod tests {
     fn sums_at_both_ends() {
         let sums = drawn(PrintedCosts::OneLimit).into_iter();
         let sums: BTreeSet<i64> = sums.map(|(sum, _)| sum).collect();
-        assert_eq!(sums.first(), Some(&-512_000_000_000));
-        assert_eq!(sums.last(), Some(&512_000_000_000));
+        assert_eq!(sums.first(), Some(&(-512 * COST_LIMIT)));
+        assert_eq!(sums.last(), Some(&(512 * COST_LIMIT)));
     }
 }

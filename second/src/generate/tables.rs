@@ -5,6 +5,7 @@ use std::collections::BTreeMap;
 use super::costs::beyond_limits;
 use super::damage::break_line;
 use super::networks::two_below;
+use super::shapes::{NARROW_SPAN, SPAN_AS_EDGE};
 use super::{damage, dress, network_of, CostStyle, Family, Rng, Shapeless};
 use crate::lengths;
 use crate::lines::TABLE_HEAD;
@@ -12,7 +13,7 @@ use crate::refusal::{
     Refusal, BAD_COST, BAD_EDGE, BAD_RESERVED, BAD_SPAN, BAD_TOTAL, BAD_VERTEX_COUNT, BROKEN_TEXT,
     NOT_FOUR_REGULAR, SMALL_CUT,
 };
-use crate::tables::{write_span, write_table, Span, Table, MOST_WEIGHT};
+use crate::tables::{span_fields, write_span, write_table, Span, Table, MOST_WEIGHT};
 use crate::texts::{as_field, Network, COST_LIMIT, MOST_VERTICES};
 
 /// The table of a network: a span for each pair of ends, for as many edges as it has. They
@@ -110,6 +111,12 @@ pub enum TableAim {
     BrokenLine,
     /// A head or a span with the kind of another frame.
     WrongKind,
+    /// The cost of one span in four bytes, of the others in eight.
+    NarrowCost,
+    /// The costs of all spans in four bytes.
+    NarrowCosts,
+    /// A span with the fields of an edge.
+    EdgeFields,
     /// A span that the head counts goes missing.
     MissingSpan,
     /// Bytes follow, and the weights' total may be wrong.
@@ -130,7 +137,7 @@ pub enum TableAim {
 
 impl TableAim {
     /// Every aim.
-    pub const ALL: [TableAim; 19] = [
+    pub const ALL: [TableAim; 22] = [
         TableAim::VertexCount,
         TableAim::Reserved,
         TableAim::SpanCount,
@@ -142,6 +149,9 @@ impl TableAim {
         TableAim::Cost,
         TableAim::BrokenLine,
         TableAim::WrongKind,
+        TableAim::NarrowCost,
+        TableAim::NarrowCosts,
+        TableAim::EdgeFields,
         TableAim::MissingSpan,
         TableAim::LeftOver,
         TableAim::NoSpans,
@@ -161,6 +171,9 @@ impl TableAim {
             TableAim::Cost => BAD_COST,
             TableAim::BrokenLine
             | TableAim::WrongKind
+            | TableAim::NarrowCost
+            | TableAim::NarrowCosts
+            | TableAim::EdgeFields
             | TableAim::MissingSpan
             | TableAim::LeftOver => BROKEN_TEXT,
             TableAim::SpanCount
@@ -176,7 +189,11 @@ impl TableAim {
     /// The fewest vertices for which the fault can be had.
     fn fewest_vertices(self) -> usize {
         match self {
-            TableAim::EqualPair | TableAim::FallingPair | TableAim::TotalHigh => 3,
+            // From here on there are several spans, none of them of the most weight.
+            TableAim::EqualPair
+            | TableAim::FallingPair
+            | TableAim::TotalHigh
+            | TableAim::NarrowCost => 3,
             // From here on there are as many pairs of vertices as edges.
             TableAim::LargeTotal => 5,
             _ => 2,
@@ -202,9 +219,12 @@ pub fn aimed_table(rng: &mut Rng, aim: TableAim, vertices: usize) -> (Vec<u8>, R
         TableAim::BrokenLine | TableAim::WrongKind | TableAim::MissingSpan | TableAim::LeftOver => {
             wrong_form(rng, aim, table)
         }
+        TableAim::NarrowCost | TableAim::NarrowCosts | TableAim::EdgeFields => {
+            wrong_fields(rng, aim, &table)
+        }
         TableAim::NoSpans | TableAim::TotalLow | TableAim::TotalHigh | TableAim::LargeTotal => {
             let table = wrong_total(rng, aim, table);
-            frames(&table, table.spans.len())
+            table_frames(&table)
         }
         TableAim::Degree => shapeless(rng, Shapeless::MovedEnd, vertices),
         TableAim::Cut => {
@@ -260,7 +280,7 @@ fn wrong_span(rng: &mut Rng, aim: TableAim, mut table: Table) -> Vec<u8> {
     if aim == TableAim::Cost || rng.once_in(3) {
         spans[place].cost = beyond_limits(rng);
     }
-    let text = frames(&table, table.spans.len());
+    let text = table_frames(&table);
     damaged_behind(rng, text, lengths::table_text(place + 1))
 }
 
@@ -290,19 +310,37 @@ fn wrong_form(rng: &mut Rng, aim: TableAim, mut table: Table) -> Vec<u8> {
             if rng.once_in(2) {
                 table = wrong_total(rng, TableAim::TotalLow, table);
             }
-            let mut text = frames(&table, table.spans.len());
+            let mut text = table_frames(&table);
             let behind = [
                 &b"\n"[..],
                 b"0",
                 b"\r\n",
                 b"\0",
                 b"08000200000001\n",
-                b"09000000010400000000\n",
+                b"0900000001040000000000000000\n",
             ];
             text.extend_from_slice(rng.pick(&behind));
             text
         }
     }
+}
+
+/// The frames of a table in which one span has other fields, or all of them have.
+fn wrong_fields(rng: &mut Rng, aim: TableAim, table: &Table) -> Vec<u8> {
+    let wrong = rng.below(table.spans.len());
+    let mut text = head_frame(table, table.spans.len());
+    for (place, &span) in table.spans.iter().enumerate() {
+        let fields @ [low, high, _, cost] = span_fields(span);
+        match aim {
+            TableAim::NarrowCosts => NARROW_SPAN.write(fields, &mut text),
+            TableAim::NarrowCost if place == wrong => NARROW_SPAN.write(fields, &mut text),
+            TableAim::EdgeFields if place == wrong => {
+                SPAN_AS_EDGE.write([as_field(place), low, high, cost], &mut text);
+            }
+            _ => write_span(span, &mut text),
+        }
+    }
+    text
 }
 
 /// A table with nothing wrong but the total of its weights.
@@ -343,14 +381,25 @@ fn lowest_spans(vertices: usize, count: usize, weight: u8) -> Vec<Span> {
     spans.collect()
 }
 
+/// The frames of a table, whatever its numbers.
+pub fn table_frames(table: &Table) -> Vec<u8> {
+    frames(table, table.spans.len())
+}
+
 /// The frames of a table, whatever its numbers, with this count of spans in the head.
 fn frames(table: &Table, count: usize) -> Vec<u8> {
-    let mut text = Vec::new();
-    let head = [table.vertices, table.reserved, count];
-    TABLE_HEAD.write(head.map(as_field), &mut text);
+    let mut text = head_frame(table, count);
     for &span in &table.spans {
         write_span(span, &mut text);
     }
+    text
+}
+
+/// The head of a table, with this count of spans in it.
+fn head_frame(table: &Table, count: usize) -> Vec<u8> {
+    let mut text = Vec::new();
+    let head = [table.vertices, table.reserved, count];
+    TABLE_HEAD.write(head.map(as_field), &mut text);
     text
 }
 

@@ -8,12 +8,12 @@ use second::{write_network, Edge, Network};
 /// The network printed in the rules, three vertices.
 pub const T: &str = "\
 0100030000
-0200000000000100000007
-0200010000000100000004
-0200020000000200000001
-0200030000000200000002
-0200040001000200000006
-0200050001000200000003
+020000000000010000000000000007
+020001000000010000000000000004
+020002000000020000000000000001
+020003000000020000000000000002
+020004000100020000000000000006
+020005000100020000000000000003
 ";
 
 /// What the plan program writes for it.
@@ -24,6 +24,14 @@ pub const T_PLAN: &str = "\
 050002
 050005
 0600000000000000080000000000000010
+";
+
+/// A table of three vertices, two edges between any two of them.
+pub const TRIANGLE: &str = "\
+08000300000003
+0900000001020000000000000007
+0900000002020000000000000001
+0900010002020000000000000006
 ";
 
 /// What makes any text of frames unreadable, or leaves it with other frames than are due.
@@ -40,6 +48,15 @@ pub const BREAKING: [Damage; 11] = [
     Damage::Empty,
     Damage::Repeated,
 ];
+
+/// A text with some of its lines replaced.
+pub fn lines_replaced(text: &str, lines: &[(usize, &str)]) -> Vec<u8> {
+    let mut all: Vec<&str> = text.lines().collect();
+    for &(place, line) in lines {
+        all[place] = line;
+    }
+    (all.join("\n") + "\n").into_bytes()
+}
 
 /// A network's text from its ends and costs.
 pub fn network_text(
