@@ -9,7 +9,7 @@ use libc::STDIN_FILENO;
 use libc::STDOUT_FILENO;
 use thinning::plan;
 ghost use mathlib.Core.Path.{_≡_};
-ghost use Prim.Native.Nat.{_≤_, _<_};
+ghost use Prim.Native.Nat.{_+_, _≤_};
 ghost use lib.ListN.{length};
 ghost use Rattle.io.specs.Counts.{Counts};
 ghost use Rattle.base.specs.Answer.{filled};
@@ -32,9 +32,10 @@ fn refuse(number: u8) {
     io::write_all(STDOUT_FILENO, &line[..length]);
 }
 
-// Reads standard input, as far as it says what is answered, and answers how many bytes that is.
+// Reads standard input, as far as it says what is answered, and answers how many bytes that is. The buffer has one byte
+// more than the longest network text, neither less nor more.
 fn read_input(input: &mut [u8]) -> usize
-    requires { ⌜ longestNetwork < length (now input) ⌝ }
+    requires { ⌜ length (now input) ≡ longestNetwork + 1 ⌝ }
     ensures { λ r. ⌜ Counts r (now (input .exit)) ⌝ }
 {
     io::read_full(STDIN_FILENO, input)
