@@ -130,7 +130,7 @@ accepts {t} {g} a =
 -- ── another edge reserved ──
 
 -- degrees and cuts do not depend on it
-refusal-same : (r : ℕ) (g : Network) → networkRefusal (reserving r g) ≡ networkRefusal g
+pub refusal-same : (r : ℕ) (g : Network) → networkRefusal (reserving r g) ≡ networkRefusal g
 unfolding networkRefusal fourEach degree endsAt everyCutOf crossedBy crossingsOf crosses
 refusal-same r g = refl
 

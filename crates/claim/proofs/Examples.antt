@@ -17,7 +17,7 @@ use Rattle.network_text.specs.Text.{edgesIn, edgesText, networkText, textOf}
 use Rattle.chain_text.specs.Text.{chainText}
 use Rattle.list_text.specs.Text.{listText}
 use Rattle.base.specs.Fold.{fold, pick, only, among, tabulate}
-use Rattle.kept_text.specs.Text.{keptEdges, keptText}
+use Rattle.kept_text.specs.Text.{keptEdges, costsText, keptText}
 use Rattle.loading.specs.Loading.{stateOf, networkOf, loadNetwork}
 use Rattle.graph.specs.Network.{endsAt, degree, touches, far, costOver, kept}
 use Rattle.graph.specs.Cut.{differ, crosses, crossingsOf, everySide, somewhere, crossedBy, everyCutOf, fourEach}
@@ -66,7 +66,7 @@ unfolding textOfDistrict chain sameNumbers answers writes refusedBy holdsOfTexts
     placeOf total widths bytesOf padded digitsOf kindOf digitOf spell valueOf numberOf allDigits isLine fieldsOf
     valuesOf spellAll lineOf framesOf linesOf costDigits keptDigits unreservedDigits signedOf unsignedOf verticesOk
     costOk unless headRefusal edgeRefusal checked meaningOf inFrames edgesOf readNetwork edgesIn edgesText networkText
-    textOf chainText listText keptEdges keptText stateOf networkOf loadNetwork fold pick only among tabulate endsAt
+    textOf chainText listText keptEdges costsText keptText stateOf networkOf loadNetwork fold pick only among tabulate endsAt
     degree touches far costOver differ crosses crossingsOf everySide somewhere crossedBy everyCutOf fourEach
     networkRefusal isPartner partners split splitWith admissible third after stepRefusal lastEdges dearest endRefusal
     marks endKept lift lifted chosenVertex ordered chosenPair chosenStep dearestOf chosenDrop planSteps planDrop

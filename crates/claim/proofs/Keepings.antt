@@ -11,6 +11,7 @@ use mir.Val.{toZ, ofZ}
 use Rattle.kept_text.specs.Text.{keptEdges, keptText, keptLength}
 use Rattle.kept_text.proofs.Texts.{length-kept}
 use Rattle.graph.specs.Network.{keptCost, allButReserved}
+use Rattle.graph.specs.Sound.{Light}
 use Rattle.graph.specs.declared.Network.{Network}
 use Rattle.rules.specs.Running.{Keeping}
 use Rattle.claim.specs.Services.{keptTextOf}
@@ -23,16 +24,24 @@ pub kept-length-is : (g : Network) (K : List Bool)
 unfolding keptTextOf
 kept-length-is g K = length-kept (keptEdges (g .edges) K) (keptCost g K) (allButReserved g)
 
+-- the two costs as the code hands them over
+module _ (g : Network) (light : Light g) where
+  pub kept-back : (K : List Bool) (kept : ℤ) → kept ≡ keptCost g K → toZ w64 (ofZ w64 kept) ≡ keptCost g K
+  kept-back K kept e = read-back kept (omega (arith, ap natAbs e, kept-small g light K)) ∙ e
+
+  pub unreserved-back : (unreserved : ℤ) → unreserved ≡ allButReserved g
+      → toZ w64 (ofZ w64 unreserved) ≡ allButReserved g
+  unreserved-back unreserved e = read-back unreserved (omega (arith, ap natAbs e, reserved-small g light)) ∙ e
+
 module _ {g : Network} {K : List Bool} (k : Keeping g K) where
   pub kept-size : (n : ℕ) → n ≡ keptLength (length (keptEdges (g .edges) K)) → n ≡ length (keptTextOf g K)
   kept-size n e = e ∙ sym (kept-length-is g K)
 
-  -- the text with the costs as the code hands them over
+  -- the text with these costs
   module _ (kept unreserved : ℤ) (ek : kept ≡ keptCost g K) (eu : unreserved ≡ allButReserved g) where
     pub kept-text : keptText (keptEdges (g .edges) K) (toZ w64 (ofZ w64 kept)) (toZ w64 (ofZ w64 unreserved))
         ≡ keptTextOf g K
     unfolding keptTextOf
     kept-text =
-        ap₂ (keptText (keptEdges (g .edges) K))
-        (read-back kept (omega (arith, ap natAbs ek, kept-small g (k .light) K)) ∙ ek)
-        (read-back unreserved (omega (arith, ap natAbs eu, reserved-small g (k .light))) ∙ eu)
+        ap₂ (keptText (keptEdges (g .edges) K)) (kept-back g (k .light) K kept ek)
+        (unreserved-back g (k .light) unreserved eu)

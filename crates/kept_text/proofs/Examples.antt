@@ -11,11 +11,11 @@ use Rattle.frame.specs.Kinds.{keptDigits, unreservedDigits}
 use Rattle.digits.specs.Sign.{unsignedOf}
 use Rattle.frame.proofs.Examples.{printed}
 use Rattle.list_text.specs.Text.{listText}
-use Rattle.kept_text.specs.Text.{keptText, refusalText}
+use Rattle.kept_text.specs.Text.{costsText, keptText, refusalText}
 
 pub printed-kept : keptText (1 ∷ 2 ∷ 5 ∷ []) (pos 8) (pos 16) ≡
     printed 6 0x050001 (printed 6 0x050002 (printed 6 0x050005 (printed 34 0x0600000000000000080000000000000010 [])))
-unfolding keptText listText linesOf lineOf spellAll spell digitOf kindOf widths bytesOf padded
+unfolding keptText costsText listText linesOf lineOf spellAll spell digitOf kindOf widths bytesOf padded
     keptDigits unreservedDigits unsignedOf
 printed-kept = refl
 

@@ -27,7 +27,7 @@ use Rattle.frame.proofs.Lines.{length-line, fields-found}
 use Rattle.frame.proofs.Named.{costs-found}
 use Rattle.base.proofs.Writing.{Written, written-last, written-front}
 use Rattle.list_text.specs.Text.{frameOf, risingFrom, listIn, readList, listText, writeList}
-use Rattle.kept_text.specs.Text.{isKept, keptEdges, keptText, costsIn, keptLength, ListsKept}
+use Rattle.kept_text.specs.Text.{isKept, keptEdges, costsText, keptText, costsEnd, costsIn, keptLength, ListsKept}
 use Rattle.list_text.proofs.OneToOne.{one-to-one}
 use Rattle.list_text.proofs.Texts.{length-list}
 
@@ -87,11 +87,16 @@ lists-kept = record { exactly = exactly; rising = rising }
 
 -- ── lengths ──
 
+-- the frame 06 is one line
+pub length-costs : (kept unreserved : ℤ) → length (costsText kept unreserved) ≡ lineLength COSTS
+unfolding costsText
+length-costs kept unreserved = length-line COSTS (ofCosts (record { kept = kept; unreserved = unreserved }))
+
 pub length-kept : (es : List ℕ) (kept unreserved : ℤ) → length (keptText es kept unreserved) ≡ keptLength (length es)
 unfolding keptText keptLength
 length-kept es kept unreserved =
-    let costs = ofCosts (record { kept = kept; unreserved = unreserved }) in
-    length-append (listText es) (lineOf COSTS costs) ∙ omega (arith, length-list es, length-line COSTS costs)
+    length-append (listText es) (costsText kept unreserved)
+    ∙ omega (arith, length-list es, length-costs kept unreserved)
 
 -- a text of that length has room
 pub kept-fits : (es : List ℕ) (kept unreserved : ℤ) (n m : ℕ) → n ≡ keptLength (length es) → n ≤ m
@@ -115,25 +120,28 @@ few-kept n marks = pick-few n 0 (isKept marks)
 -- the costs are left to write behind the kept edges
 pub costs-left : (es : List ℕ) (kept unreserved : ℤ) (old out : List ℕ) (at : ℕ) → at ≡ length (listText es)
     → out ≡ over (listText es) old → length (keptText es kept unreserved) ≤ length old
-    → Written (keptText es kept unreserved)
-    (lineOf COSTS (ofCosts (record { kept = kept; unreserved = unreserved })) ++ []) old out at
+    → Written (keptText es kept unreserved) (costsText kept unreserved ++ []) old out at
 unfolding keptText
 costs-left es kept unreserved old out at n e h =
-    let costs = ofCosts (record { kept = kept; unreserved = unreserved }) in
-    written-last (keptText es kept unreserved) (lineOf COSTS costs) old out at
-    (written-front (listText es) (lineOf COSTS costs) old out at n e h)
+    written-last (keptText es kept unreserved) (costsText kept unreserved) old out at
+    (written-front (listText es) (costsText kept unreserved) old out at n e h)
+
+-- a kept text ends with them
+pub costs-last : (es : List ℕ) (kept unreserved : ℤ) → costsEnd (keptText es kept unreserved) ≡ costsText kept unreserved
+unfolding costsEnd keptText
+costs-last es kept unreserved =
+    let costs = costsText kept unreserved in
+    drop-at (listText es) costs (length (listText es ++ costs) - lineLength COSTS)
+    (omega (arith, length-append (listText es) costs, length-costs kept unreserved))
 
 -- the costs are found again in the last line, where they have room in their fields
 pub costs-read : (es : List ℕ) (kept unreserved : ℤ) → 2 * mag kept < 16 ^ keptDigits
     → 2 * mag unreserved < 16 ^ unreservedDigits
     → costsIn (keptText es kept unreserved) ≡ record { kept = kept; unreserved = unreserved }
-unfolding costsIn keptText
+unfolding costsIn costsText
 costs-read es kept unreserved h l =
     let c : Costs = record { kept = kept; unreserved = unreserved } in
-    let line = lineOf COSTS (ofCosts c) in
-    let place : length (listText es) ≡ length (listText es ++ line) - lineLength COSTS =
-    omega (arith, length-append (listText es) line, length-line COSTS (ofCosts c)) in
-    rw (drop-at (listText es) line (length (listText es ++ line) - lineLength COSTS) place, ← append-nil line)
+    rw (costs-last es kept unreserved, ← append-nil (lineOf COSTS (ofCosts c)))
     (rw (fields-found COSTS (ofCosts c) [] fit) (costs-found c h l))
   where
     fit : Fits COSTS (ofCosts (record { kept = kept; unreserved = unreserved }))

@@ -23,13 +23,21 @@ isKept marks e = getD marks e false
 unfoldable pub keptEdges : ℕ → List Bool → List ℕ
 keptEdges n marks = pick n 0 (isKept marks)
 
--- the kept edges, rising, and then their cost and that of all edges but the reserved one
-unfoldable pub keptText : List ℕ → ℤ → ℤ → List ℕ
-keptText es kept unreserved = listText es ++ lineOf COSTS (ofCosts (record { kept = kept; unreserved = unreserved }))
+-- the frame 06: the cost of the kept edges, and that of all edges but the reserved one
+unfoldable pub costsText : ℤ → ℤ → List ℕ
+costsText kept unreserved = lineOf COSTS (ofCosts (record { kept = kept; unreserved = unreserved }))
 
--- the costs in the frame 06 that a kept text ends with
+-- the kept edges, rising, and then the costs
+unfoldable pub keptText : List ℕ → ℤ → ℤ → List ℕ
+keptText es kept unreserved = listText es ++ costsText kept unreserved
+
+-- the frame 06 that a kept text ends with
+unfoldable pub costsEnd : List ℕ → List ℕ
+costsEnd t = drop (length t - lineLength COSTS) t
+
+-- the costs in it
 unfoldable pub costsIn : List ℕ → Costs
-costsIn t = costsOf (fieldsOf COSTS (drop (length t - lineLength COSTS) t))
+costsIn t = costsOf (fieldsOf COSTS (costsEnd t))
 
 -- how many bytes the kept text of so many edges has
 unfoldable pub keptLength : ℕ → ℕ

@@ -16,7 +16,7 @@ ghost use lib.ListN.{length};
 ghost use Rattle.base.specs.Answer.{answer, over, replyOf, after};
 ghost use Rattle.base.specs.Limits.{edgeLimit};
 ghost use Rattle.list_text.specs.Text.{listText};
-ghost use Rattle.kept_text.specs.Text.{keptEdges, keptText, keptLength, refusalText};
+ghost use Rattle.kept_text.specs.Text.{keptEdges, costsText, keptText, keptLength, refusalText};
 
 // How many of the first edges are kept.
 pub fn count_kept(kept: &[bool], edges: usize) -> usize
@@ -60,6 +60,16 @@ fn put_kept(kept: &[bool], edges: usize, text: &mut [u8]) -> usize
     at
 }
 
+// Writes the line of two costs to the start of `text`, and answers its length.
+pub fn put_costs(text: &mut [u8], kept: i64, unreserved: i64) -> usize
+    requires { ⌜ length (costsText kept unreserved) ≤ length (now text) ⌝ }
+    ensures { λ r. ⌜ (r ≡ length (costsText kept unreserved)) ×
+        (now (text .exit) ≡ over (costsText kept unreserved) (now (text .entry))) ⌝ }
+{
+    let costs = Costs { kept, unreserved };
+    put_line(text, COSTS, costs.fields())
+}
+
 // Writes the kept text of the first edges to the start of `text`.
 fn put_text(kept: &[bool], edges: usize, cost: i64, unreserved: i64, text: &mut [u8])
     requires { ⌜ (edges ≤ length (now kept)) ×
@@ -68,11 +78,7 @@ fn put_text(kept: &[bool], edges: usize, cost: i64, unreserved: i64, text: &mut 
         over (keptText (keptEdges edges (now (kept .entry))) cost unreserved) (now (text .entry)) ⌝ }
 {
     let at = put_kept(kept, edges, text);
-    let costs = Costs {
-        kept: cost,
-        unreserved,
-    };
-    put_line(&mut text[at..], COSTS, costs.fields());
+    put_costs(&mut text[at..], cost, unreserved);
 }
 
 // Writes the kept text of the marked edges among the first, with their cost and that of all edges but the reserved one.

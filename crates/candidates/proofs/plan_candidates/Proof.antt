@@ -1,0 +1,132 @@
+-- `candidates::plan_candidates` meets its contract.
+use mathlib.Core.Path.{_≡_, sym, _∙_, ap}
+use mathlib.Core.Bool.{true}
+use mathlib.Core.List.{List}
+use Prim.Native.Nat.{ℕ}
+use native.Mathlib.Omega.{arith}
+use borrow.Author.Needs.{needs}
+use borrow.Author.Tests.{not-true, not-false}
+use Rattle.base.specs.Answer.{answer}
+use Rattle.base.specs.declared.reply.Reply.the-variants.{Done}
+use Rattle.base.proofs.Answers.{refuses, short, fits}
+use Rattle.loading.specs.Loading.{loadedOf}
+use Rattle.loading.proofs.Reading.{loaded-zero, loaded-refused, load-ready}
+use Rattle.claim.specs.Services.{acceptNetwork}
+use Rattle.claim.proofs.Accepting.{accept-loaded, accept-numbered, accepted-whole}
+use Rattle.candidates.specs.Services.{areEdges, candidatesCosts, candidatesText}
+use Rattle.candidates.proofs.Listing.{edges-below}
+use Rattle.candidates.proofs.Answering.{network-refused, list-refused, costs-answered, line-bytes}
+use Rattle.candidates.proofs.Answering.{room-short, room-enough}
+use Rattle.candidates.proofs.plan_candidates.Statement.{statement}
+use Rattle.candidates.proofs.plan_candidates.Tie as tie
+
+-- the entry, seen from where the network is accepted, and the network
+abbrev entry : tie.After-accept → tie.Start
+entry c = c .before .before .before .before .before
+
+taken : (c : tie.After-accept) → c .accept .result ≡ loadedOf (acceptNetwork (entry c .args .network .now))
+taken c = c .accept .ensures ∙ ap loadedOf (accept-loaded _ (c .before .load .ensures))
+
+accepted : (c : tie.Else1) → acceptNetwork (entry (c .before) .args .network .now)
+    ≡ answer (c .before .accept .result .network)
+accepted c = loaded-zero _ (accept-numbered _) (taken (c .before)) (c .if1 .left)
+
+-- where the network is known to be accepted, seen from where the list was looked at
+abbrev known : tie.After-are-edges → tie.Else1
+known c = c .before .before
+
+-- the costs that are due where all candidates are edges
+abbrev due : tie.Else2 → List ℕ
+due c =
+    let e = known (c .before) in
+    candidatesCosts (e .before .accept .result .network) (entry (e .before) .args .candidates .now)
+
+all-edges : (c : tie.Else2) →
+    let e = known (c .before) in
+    areEdges (e .before .accept .result .network .edges) (entry (e .before) .args .candidates .now) ≡ true
+all-edges c = sym (c .before .are-edges .ensures) ∙ not-false _ (c .if2 .left)
+
+answered : (c : tie.Else2) →
+    let a = entry (known (c .before) .before) .args in
+    candidatesText (a .network .now) (a .candidates .now) ≡ answer (due c)
+answered c =
+    let e = known (c .before) in
+    let a = entry (e .before) .args in
+    costs-answered (a .network .now) (a .candidates .now) _ (accepted e) (all-edges c)
+
+load-requires : tie.Need-load-requires
+load-requires c κs = search needs
+
+accept-requires : tie.Need-accept-requires
+accept-requires c κs = load-ready _ (c .load .ensures)
+
+returns : tie.Need-returns
+returns c =
+    let q = c .before in
+    let a = entry q .args in
+    let refused = loaded-refused _ (accept-numbered _) (taken q) (c .if1 .taken) in
+    refuses _ (a .costs .now) _ (network-refused (a .network .now) (a .candidates .now) _ refused)
+
+are-edges-requires : tie.Need-are-edges-requires
+are-edges-requires c κs = search needs
+
+returns-2 : tie.Need-returns-2
+returns-2 c =
+    let q = c .before in
+    let e = known q in
+    let a = entry (e .before) .args in
+    let none = sym (q .are-edges .ensures) ∙ not-true _ (c .if2 .taken) in
+    refuses _ (a .costs .now) _ (list-refused (a .network .now) (a .candidates .now) _ (accepted e) none)
+
+length-of-requires : tie.Need-length-of-requires
+length-of-requires c κs = search needs
+
+div-if3 : tie.Need-div-if3
+div-if3 c = omega (arith, c .length-of .ensures, line-bytes)
+
+returns-3 : tie.Need-returns-3
+returns-3 c =
+    let l = c .before in
+    let e = l .before in
+    short _ _ (due e) (answered e) (room-short _ _ _ _ (l .length-of .ensures) (c .if3 .taken))
+
+put-candidates-requires : tie.Need-put-candidates-requires
+put-candidates-requires c κs =
+    let l = c .before .before in
+    let e = l .before in
+    let w = accepted-whole _ _ (accepted (known (e .before))) in
+    record {
+      known = w .known;
+      passed = w .passed;
+      below = edges-below _ _ (all-edges e);
+      long = room-enough _ _ _ _ (l .length-of .ensures) (c .before .if3 .left);
+    }
+
+same-length : tie.Need-same-length
+same-length c = search needs
+
+returns-4 : tie.Need-returns-4
+returns-4 c =
+    let p = c .before .before in
+    let k = p .before .before in
+    let l = k .before in
+    let e = l .before in
+    let old = entry (known (e .before) .before) .args .costs .now in
+    let f = fits _ old (due e) (answered e) (room-enough _ _ _ _ (l .length-of .ensures) (k .if3 .left)) in
+    (ap Done (p .put-candidates .ensures .0) ∙ f .0, p .put-candidates .ensures .1 ∙ f .1)
+
+pub plan-candidates-spec : {M : Type 1} → statement M
+plan-candidates-spec =
+    tie.close
+    (tie.spec
+    load-requires
+    accept-requires
+    returns
+    are-edges-requires
+    returns-2
+    length-of-requires
+    div-if3
+    returns-3
+    put-candidates-requires
+    same-length
+    returns-4)

@@ -1,0 +1,2 @@
+-- What is owed of candidates.
+use mathlib.Core.List.{List}

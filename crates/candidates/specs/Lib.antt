@@ -1,0 +1,3 @@
+pub mod Services
+pub mod Room
+pub mod Condition
