@@ -1,3 +1,4 @@
 pub mod Reserving
 pub mod Listing
 pub mod Answering
+pub mod Condition

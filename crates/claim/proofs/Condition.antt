@@ -16,8 +16,9 @@ use Rattle.base.specs.Answer.{Answer, refused as refusedBy, answer, andThen, re
 use Rattle.base.specs.Refusals.{SHORT}
 use Rattle.base.specs.declared.reply.Reply.the-variants.{Refused}
 use Rattle.base.proofs.Answers.{then-answer, refuses, fits, short}
-use Rattle.network_text.specs.Text.{Meaning, meant as meaning}
-use Rattle.network_text.proofs.OneToOne.{read-written, written-read, any-reserved}
+use Rattle.network_text.specs.Text.{Meaning, reservingText}
+use Rattle.network_text.proofs.OneToOne.{read-written, written-read}
+use Rattle.network_text.proofs.Reserving.{reservingMeaning, reserving-answered}
 use Rattle.network_text.proofs.Meaning.{read-valid}
 use Rattle.loading.specs.Known.{Known}
 use Rattle.loading.specs.Loading.{stateOf, networkOf}
@@ -134,24 +135,21 @@ pub refusal-same : (r : ℕ) (g : Network) → networkRefusal (reserving r g) �
 unfolding networkRefusal fourEach degree endsAt everyCutOf crossedBy crossingsOf crosses
 refusal-same r g = refl
 
-state-same : (m : Meaning) (r : ℕ)
-    → networkOf (meaning (m .vertices) r (m .low) (m .high) (m .cost)) ≡ reserving r (networkOf m)
+state-same : (m : Meaning) (r : ℕ) → networkOf (reservingMeaning r m) ≡ reserving r (networkOf m)
 unfolding networkOf stateOf
 state-same m r = refl
 
 accepted-any : (t : List ℕ) (g : Network) → acceptNetwork t ≡ answer g → (r : ℕ) → r < g .edges
-    → (s : List ℕ) × Accepted s (reserving r g)
+    → Accepted (reservingText r t) (reserving r g)
 accepted-any t g e r h =
     let w = accepted-whole t g e in
     let m = w .meaning in
     let few : r < 2 * m .vertices = unfold networkOf stateOf in omega (arith, h, ap (λ g. g .edges) (w .state-is)) in
-    let s = any-reserved t m r (w .read) few in
-    let other = meaning (m .vertices) r (m .low) (m .high) (m .cost) in
-    let same : networkOf other ≡ reserving r g = state-same m r ∙ ap (reserving r) (w .state-is) in (
-      s .0,
-      is-accepted (s .0) (reserving r g)
-          (whole-accepted (s .0) other (s .1) (ap networkRefusal same ∙ refusal-same r g ∙ w .passed) ∙ ap answer same),
-    )
+    let same : networkOf (reservingMeaning r m) ≡ reserving r g =
+    state-same m r ∙ ap (reserving r) (w .state-is) in
+    is-accepted (reservingText r t) (reserving r g)
+    (whole-accepted (reservingText r t) (reservingMeaning r m) (reserving-answered t m r (w .read) few)
+    (ap networkRefusal same ∙ refusal-same r g ∙ w .passed) ∙ ap answer same)
 
 -- ── chains over a network that runs ──
 module _ {g : Network} (run : Running g) where

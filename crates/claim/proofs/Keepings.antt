@@ -8,8 +8,8 @@ use lib.ListN.{length}
 use lib.IntN.{ℤ, natAbs}
 use mir.Syntax.{w64}
 use mir.Val.{toZ, ofZ}
-use Rattle.kept_text.specs.Text.{keptEdges, keptText, keptLength}
-use Rattle.kept_text.proofs.Texts.{length-kept}
+use Rattle.kept_text.specs.Text.{keptEdges, keptText, costsIn, keptLength}
+use Rattle.kept_text.proofs.Texts.{length-kept, costs-read, cost-room}
 use Rattle.graph.specs.Network.{keptCost, allButReserved}
 use Rattle.graph.specs.Sound.{Light}
 use Rattle.graph.specs.declared.Network.{Network}
@@ -32,6 +32,14 @@ module _ (g : Network) (light : Light g) where
   pub unreserved-back : (unreserved : ℤ) → unreserved ≡ allButReserved g
       → toZ w64 (ofZ w64 unreserved) ≡ allButReserved g
   unreserved-back unreserved e = read-back unreserved (omega (arith, ap natAbs e, reserved-small g light)) ∙ e
+
+-- and as they are read from a text, whatever edges it lists
+pub costs-in : (g : Network) → Light g → (K : List Bool) (es : List ℕ)
+    → costsIn (keptText es (keptCost g K) (allButReserved g))
+    ≡ record { kept = keptCost g K; unreserved = allButReserved g }
+costs-in g light K es =
+    costs-read es (keptCost g K) (allButReserved g)
+    (cost-room (keptCost g K) (kept-small g light K) .0) (cost-room (allButReserved g) (reserved-small g light) .1)
 
 module _ {g : Network} {K : List Bool} (k : Keeping g K) where
   pub kept-size : (n : ℕ) → n ≡ keptLength (length (keptEdges (g .edges) K)) → n ≡ length (keptTextOf g K)

@@ -13,7 +13,7 @@ use Rattle.base.specs.Limits.{edgeLimit, costLimit}
 use Rattle.base.specs.Refusals.{SHORT}
 use Rattle.base.specs.declared.reply.Reply.{Reply}
 use Rattle.base.specs.declared.reply.Reply.the-variants.{Refused, Done}
-use Rattle.network_text.specs.Text.{Meaning, writeNetwork}
+use Rattle.network_text.specs.Text.{Meaning, writeNetwork, reservingText}
 use Rattle.chain_text.specs.Text.{chainText}
 use Rattle.kept_text.specs.Text.{keptEdges, keptText}
 use Rattle.loading.specs.Loading.{networkOf}
@@ -104,9 +104,9 @@ pub record Claim : Type 0 where
   -- 'A network is accepted if every cabinet has four cables and every division is crossed by at least four.'
   pub accepted : (t : List ℕ) (g : Network) → (acceptNetwork t ≡ answer g) ↔ Accepted t g
   -- '3 reserved cable not below 2n' is all that is asked of it:
-  -- what is accepted is accepted with any other edge reserved
+  -- what is accepted is accepted with any other edge in its head's reserved field
   pub any-reserved : {t : List ℕ} {g : Network} → Accepted t g → (r : ℕ) → r < g .edges
-      → (s : List ℕ) × Accepted s (reserving r g)
+      → Accepted (reservingText r t) (reserving r g)
   -- 'A chain passes when its check over an accepted network succeeds or gives 13.' 'Any bytes may be proposed as a
   -- chain. They keep the rules over an accepted network exactly when they are a chain text with nothing left over, each
   -- frame 03 is a step by rule on the network that the frames before it leave .., with v an end of the reserved cable

@@ -8,7 +8,7 @@ use native.Mathlib.Omega.{arith}
 use lib.Dec.{ltb, lit<}
 use lib.ListN.{length, length-append, List·getD-eq-default}
 use lib.Seq.{drop-at}
-use lib.IntN.{ℤ}
+use lib.IntN.{ℤ, natAbs}
 use lib.Signed.{mag}
 use borrow.Author.Tests.{ltb-true, lt-ltb, le-leb}
 use Rattle.base.specs.Answer.{answer, andThen, over}
@@ -16,6 +16,7 @@ use Rattle.base.specs.Fold.{pick, among}
 use Rattle.base.specs.Lengths.{longestKept}
 use Rattle.base.specs.Limits.{verticesOk, edgeLimit}
 use Rattle.base.proofs.Bools.{same-test, and-both, and-left, and-right}
+use Rattle.base.proofs.Integers.{mag-within}
 use Rattle.base.proofs.Picks.{pick-few, pick-kept, pick-beyond, pick-among, among-pick}
 use Rattle.digits.proofs.Signs.{unsigned-lt}
 use Rattle.frame.specs.Table.{KEPT, COSTS, bytesOf, padded, total, placeOf, startOf, digitsOf, widths, lineLength}
@@ -133,6 +134,11 @@ costs-last es kept unreserved =
     let costs = costsText kept unreserved in
     drop-at (listText es) costs (length (listText es ++ costs) - lineLength COSTS)
     (omega (arith, length-append (listText es) costs, length-costs kept unreserved))
+
+-- a cost that is far from 64 bits has room in its field
+pub cost-room : (a : ℤ) → natAbs a < 2 ^ 62 → (2 * mag a < 16 ^ keptDigits) × (2 * mag a < 16 ^ unreservedDigits)
+unfolding keptDigits unreservedDigits digitsOf bytesOf padded
+cost-room a h = (omega (arith, mag-within a), omega (arith, mag-within a))
 
 -- the costs are found again in the last line, where they have room in their fields
 pub costs-read : (es : List ℕ) (kept unreserved : ℤ) → 2 * mag kept < 16 ^ keptDigits

@@ -11,4 +11,5 @@ pub mod Checking
 pub mod Writing
 pub mod Texts
 pub mod OneToOne
+pub mod Reserving
 pub mod Examples

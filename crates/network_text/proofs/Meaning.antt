@@ -25,6 +25,7 @@ pub record Parts (t : List ℕ) (m : Meaning) : Type 0 where
   pub edges : List Edge
   pub is : isLine HEAD t ≡ true
   pub head-is : head ≡ headOf (fieldsOf HEAD t)
+  pub read : checked (head .vertices) 0 (edgesOf (2 * head .vertices) (drop (lineLength HEAD) t)) ≡ answer edges
   pub meaning : m ≡ meaningOf (head .vertices) (head .reserved) edges
   pub head-fine : HeadPassed (head .vertices) (head .reserved)
   pub edges-fine : AllPassed (head .vertices) 0 edges
@@ -54,6 +55,7 @@ parts t m x =
           edges = es;
           is = i;
           head-is = refl;
+          read = q;
           meaning = cc;
           head-fine = head-passed (h .vertices) (h .reserved) (omega arith);
           edges-fine = c .passed;

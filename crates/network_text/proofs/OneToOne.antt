@@ -247,35 +247,6 @@ one-to-one =
       first-bytes = first-bytes;
     }
 
--- ── another edge reserved ──
-head-free : (n i r : ℕ) → headRefusal n i ≡ 0 → r < 2 * n → headRefusal n r ≡ 0
-unfolding headRefusal
-head-free n i r x h = go (verticesOk n) (ltb i (2 * n)) x
-  where
-    go : (b d : Bool) → cond b (cond d 0 RESERVED) VERTICES ≡ 0
-        → cond b (cond (ltb r (2 * n)) 0 RESERVED) VERTICES ≡ 0
-    go true d x = rw (lt-ltb r (2 * n) h)
-    go false d x = absurd (omega arith)
-
--- with another edge reserved a network has a text too
-pub any-reserved : (t : List ℕ) (m : Meaning) (r : ℕ) → readNetwork t ≡ answer m → r < 2 * m .vertices
-    → (s : List ℕ) × (readNetwork s ≡ answer (meant (m .vertices) r (m .low) (m .high) (m .cost)))
-unfolding writeNetwork unless andThen
-any-reserved t m r x h =
-    go (headRefusal (m .vertices) (m .reserved)) refl
-    (checked (m .vertices) 0 (inColumns (2 * m .vertices) 0 (m .low) (m .high) (m .cost))) refl (written-read t m x)
-  where
-    go : (k : ℕ) → headRefusal (m .vertices) (m .reserved) ≡ k → (a : Answer (List Edge))
-        → checked (m .vertices) 0 (inColumns (2 * m .vertices) 0 (m .low) (m .high) (m .cost)) ≡ a
-        → unless k (andThen a (λ es. answer (networkText (m .vertices) (m .reserved) es))) ≡ answer t
-        → (s : List ℕ) × (readNetwork s ≡ answer (meant (m .vertices) r (m .low) (m .high) (m .cost)))
-    go (suc k) p a q e = no-answer (cc)
-    go zero p (refused j) q e = no-answer (cc)
-    go zero p (answer es) q e =
-        let s = networkText (m .vertices) r es in
-        let other = meant (m .vertices) r (m .low) (m .high) (m .cost) in
-        (s, read-written other s (rw (head-free (m .vertices) (m .reserved) r p h, q)))
-
 -- ── edges that have passed are written ──
 pub head-unrefused : (n r : ℕ) → HeadPassed n r → headRefusal n r ≡ 0
 unfolding headRefusal verticesOk

@@ -135,6 +135,12 @@ writeNetwork m =
     (andThen (checked (m .vertices) 0 (inColumns (2 * m .vertices) 0 (m .low) (m .high) (m .cost)))
     (λ es. answer (networkText (m .vertices) (m .reserved) es)))
 
+-- a network text with another edge in the reserved field of its head; what stands behind the head stays
+unfoldable pub reservingText : ℕ → List ℕ → List ℕ
+reservingText r t =
+    let n = headOf (fieldsOf HEAD t) .vertices in
+    lineOf HEAD (ofHead (record { vertices = n; reserved = r })) ++ drop (lineLength HEAD) t
+
 -- ── the text of a meaning as it stands, which the reader may refuse ──
 
 unfoldable pub textOf : Meaning → List ℕ

@@ -15,10 +15,8 @@ use Rattle.graph.specs.Cut.{networkRefusal}
 use Rattle.graph.specs.Sound.{Light}
 use Rattle.graph.specs.declared.Network.{Network}
 use Rattle.kept_text.specs.Text.{costsIn, keptEdges, keptText}
-use Rattle.kept_text.proofs.Texts.{costs-read}
 use Rattle.loading.specs.Loading.{networkOf}
 use Rattle.loading.proofs.Reading.{known-weight}
-use Rattle.costs.proofs.Totals.{kept-small, reserved-small}
 use Rattle.table_text.specs.Text.{Table, readTable, standsFor}
 use Rattle.table_text.proofs.Meaning.{parts, expanded-meeting}
 use Rattle.table_text.proofs.Expanding.{length-expanded, numbered-on}
@@ -29,13 +27,14 @@ use Rattle.claim.specs.Services.{plannedKept}
 use Rattle.claim.specs.Condition.{Accepted}
 use Rattle.claim.proofs.Condition.{claim, plan-passes}
 use Rattle.claim.proofs.Accepting.{accepted-running}
+use Rattle.claim.proofs.Keepings.{costs-in}
 use Rattle.tables.specs.Services.{acceptTable, planTable, tablePlanGiven, tableNetwork, loadTable}
 use Rattle.tables.specs.Services.{tablePlanReply, tablePlannedChain, tablePlannedKept}
 use Rattle.tables.specs.Condition.{weightedCost, NoneBelowZero, PlannedAs, TableClaim}
 use Rattle.tables.proofs.Same.{table-known, table-written, refused-of-table, accept-same, plan-same}
 use Rattle.tables.proofs.Same.{given-same}
 use Rattle.tables.proofs.Same.{accept-refused, plan-refused, given-refused, load-read}
-use Rattle.tables.proofs.Costs.{weighted-size, reserved-less, ratio-up, cost-room}
+use Rattle.tables.proofs.Costs.{weighted-size, reserved-less, ratio-up}
 
 -- ── a table and its network text ──
 same-check : (t : List ℕ) → acceptTable t ≡ andThen (tableNetwork t) acceptNetwork
@@ -138,14 +137,10 @@ state-is t m g x e =
     let same = unless-answered (networkRefusal h) (answer h) g judged .1 in
     cc
 
--- the costs that are read from a plan's kept text
+-- the cost that is read from a plan's kept text
 kept-cost : (g : Network) (K : List Bool) (t : List ℕ) → Light g
     → t ≡ keptText (keptEdges (g .edges) K) (keptCost g K) (allButReserved g) → costsIn t .kept ≡ keptCost g K
-kept-cost g K t light e =
-    ap (λ t. costsIn t .kept) e
-    ∙ ap (λ c. c .kept)
-    (costs-read (keptEdges (g .edges) K) (keptCost g K) (allButReserved g)
-    (cost-room (keptCost g K) (kept-small g light K) .0) (cost-room (allButReserved g) (reserved-small g light) .1))
+kept-cost g K t light e = ap (λ t. costsIn t .kept) e ∙ ap (λ c. c .kept) (costs-in g light K (keptEdges (g .edges) K))
 
 four-thirds : (t : List ℕ) (m : Table) (p : Texts) → readTable t ≡ answer m → planTable t ≡ answer p
     → NoneBelowZero (m .spans)

@@ -2,19 +2,16 @@
 use mathlib.Core.Path.{_≡_, refl, sym, _∙_, ap}
 use mathlib.Core.Bool.{Bool, true, false, cond}
 use mathlib.Core.List.{List, [], _∷_, _++_, map, map-append}
-use Prim.Native.Nat.{ℕ, zero, suc, _+_, _*_, _^_, _≤_, _<_}
+use Prim.Native.Nat.{ℕ, zero, suc, _+_, _*_, _≤_, _<_}
 use native.Mathlib.Omega.{arith}
 use native.Mathlib.Nat.{zero-add, suc-add}
 use lib.ListN.{length, drop, getD, length-map, List·getD-append}
 use lib.IntN.{ℤ, pos, natAbs, _+ℤ_, _*ℤ_}
-use lib.Signed.{mag, _≤ℤ_}
+use lib.Signed.{_≤ℤ_}
 use Rattle.base.specs.Answer.{over}
 use Rattle.base.specs.Fold.{fold, sumℤ}
-use Rattle.base.proofs.Integers.{P, N, plus, times-P, times-N, eqℤ, ≤ℤ-is, is-≤ℤ, sumℤ-front, sumℤ-le}
-use Rattle.base.proofs.Integers.{sumℤ-size, mag-within}
+use Rattle.base.proofs.Integers.{P, N, plus, times-P, times-N, eqℤ, ≤ℤ-is, is-≤ℤ, sumℤ-front, sumℤ-le, sumℤ-size}
 use Rattle.base.proofs.Sums.{fold-ext}
-use Rattle.frame.specs.Table.{padded, bytesOf, digitsOf}
-use Rattle.frame.specs.Kinds.{keptDigits, unreservedDigits}
 use Rattle.frame.specs.declared.kinds.Span.{Span}
 use Rattle.frame.specs.declared.kinds.Edge.{Edge}
 use Rattle.graph.specs.Network.{costOf, costOver, unreserved, allButReserved}
@@ -147,8 +144,3 @@ ratio-up a b c h l =
       times-P 2 c,
       times-N 2 c,
     ))
-
--- a sum that is far from the limits has room in the frame 06
-pub cost-room : (a : ℤ) → natAbs a < 2 ^ 62 → (2 * mag a < 16 ^ keptDigits) × (2 * mag a < 16 ^ unreservedDigits)
-unfolding keptDigits unreservedDigits digitsOf bytesOf padded
-cost-room a h = (omega (arith, mag-within a), omega (arith, mag-within a))
