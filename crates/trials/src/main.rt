@@ -9,6 +9,7 @@ use thinning::check_chain;
 use thinning::check_network;
 
 mod binder;
+mod reserving;
 mod solver;
 mod tally;
 
@@ -226,6 +227,7 @@ fn main() {
             020006000000030000000000000006\n020007000100020000000000000002\n";
     islands(printed, four);
     binder::run(printed);
+    reserving::run(printed);
     square(four);
     solver::run();
 }
