@@ -1,5 +1,5 @@
 /* Prints how many bytes of stack each service takes for the networks in the named files, and the most of each. The
- * planner of tables is given a table of each network.
+ * planner of candidates is given two edges of each network, and the planner of tables a table of it.
  *
  * A service is called on a thread of its own, whose stack is a buffer that was painted with one byte. The lowest byte
  * that has lost its paint afterwards is where the deepest call wrote, and what lies between it and the frame of the
@@ -24,8 +24,12 @@
 #define GUARD ((size_t)4096)
 #define PAINT 0xa5
 
-/* What the services are given: a network text, the planner's chain, the list of all edges, room for its page, and a
- * table of the network with room for the end of a string. */
+/* How many edges are tried as the reserved one. With two, what a plan leaves on the stack below the next is seen. */
+#define CANDIDATES 2
+
+/* What the services are given: a network text, the planner's chain, candidates for the reserved edge with room for
+ * their costs, the list of all edges, room for its page, and a table of the network with room for the end of a
+ * string. */
 struct texts {
     uint8_t network[THINNING_NETWORK_TEXT];
     size_t network_length;
@@ -33,6 +37,9 @@ struct texts {
     size_t chain_length;
     uint8_t kept[THINNING_KEPT_TEXT];
     size_t kept_length;
+    uint16_t candidates[CANDIDATES];
+    uint8_t costs[CANDIDATES * THINNING_COSTS_TEXT];
+    size_t costs_length;
     uint8_t list[THINNING_LIST_TEXT];
     size_t list_length;
     uint8_t page[THINNING_PAGE_TEXT];
@@ -66,6 +73,12 @@ static uint32_t plan(struct texts *t)
                          &t->chain_length, &t->kept_length);
 }
 
+static uint32_t plan_candidates(struct texts *t)
+{
+    return thinning_plan_candidates(t->network, t->network_length, t->candidates, CANDIDATES, t->costs, sizeof t->costs,
+                                    &t->costs_length);
+}
+
 static uint32_t check_chain(struct texts *t)
 {
     return thinning_check_chain(t->network, t->network_length, t->chain, t->chain_length, t->kept, sizeof t->kept,
@@ -95,8 +108,8 @@ static uint32_t plan_table(struct texts *t)
 static const struct {
     const char *name;
     uint32_t (*call)(struct texts *);
-} services[] = {{"check", check_network}, {"plan", plan}, {"chain check", check_chain}, {"audit", audit},
-                {"page", print_page}, {"table plan", plan_table}};
+} services[] = {{"check", check_network}, {"plan", plan}, {"candidates", plan_candidates}, {"chain check", check_chain},
+                {"audit", audit}, {"page", print_page}, {"table plan", plan_table}};
 #define SERVICES (sizeof services / sizeof *services)
 
 /* A service on its way through a thread: where the thread's own frame is, and what the service answers. */
@@ -155,6 +168,13 @@ static void read_columns(const struct texts *texts, struct columns *c)
                                              THINNING_EDGES, c->cost, THINNING_EDGES, &c->vertices, &c->reserved);
     if (refusal != 0)
         fail("reading", "the network is refused");
+}
+
+/* The first and the last edge of the network. */
+static void choose_candidates(struct texts *texts, const struct columns *columns)
+{
+    texts->candidates[0] = 0;
+    texts->candidates[1] = (uint16_t)(2 * columns->vertices - 1);
 }
 
 /* The list of every edge of the network. */
@@ -231,6 +251,7 @@ static void measure(uint8_t *stack, const char *path, size_t most[SERVICES])
     size_t bytes[SERVICES];
     read_network(&texts, path);
     read_columns(&texts, &columns);
+    choose_candidates(&texts, &columns);
     list_all(&texts, &columns);
     tabulate(&texts, &columns);
     for (size_t service = 0; service < SERVICES; service++) {

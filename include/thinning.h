@@ -10,13 +10,14 @@
  * as are said, an out-number's to one; what a function writes overlaps nothing else that it is given; during the call
  * nobody else writes what it is given, or reads what it writes.
  *
- * thinning_plan, thinning_plan_table and thinning_check_chain go as deep as there are vertices: at 256 vertices the two
- * planners take 1.59 MB of stack and the chain check 1.45 MB, measured by the command ./stack.
+ * thinning_plan, thinning_plan_candidates, thinning_plan_table and thinning_check_chain go as deep as there are
+ * vertices: at 256 vertices the three planners take 1.59 MB of stack and the chain check 1.45 MB, measured by the
+ * command ./stack.
  *
  * The refusals:
  *    1  the form: a broken line, a wrong kind or length, a missing frame, bytes left over; columns of a wrong length
  *    2  the number of vertices is not 2 to 256
- *    3  the reserved edge is none of the network's
+ *    3  the reserved edge, or one of a list of candidates for it, is none of the network's
  *    4  an edge out of its place, or the ends of an edge or a span are not two vertices of the network, the lower one
  *       first
  *    5  a cost below -1000000000000 or above 1000000000000
@@ -61,6 +62,9 @@ extern "C" {
 #define THINNING_PAGE_TEXT 18981
 #define THINNING_TABLE_TEXT 14863
 
+/* The bytes of each candidate's frame. */
+#define THINNING_COSTS_TEXT 35
+
 /* Checks a network text. Refusals: 1 to 5, whichever comes first in the text, then 6, then 7. */
 uint32_t thinning_check_network(const uint8_t *network, size_t network_len);
 
@@ -71,6 +75,19 @@ uint32_t thinning_plan(const uint8_t *network, size_t network_len,
                        uint8_t *chain, size_t chain_len,
                        uint8_t *kept, size_t kept_len,
                        size_t *chain_written, size_t *kept_written);
+
+/* Plans a network text for a list of candidates, each of which is reserved in its turn in place of the edge that the
+ * network's head names: writes a frame 06 for each, in the order of the list, and the length of them all in bytes. A
+ * frame has the cost of the edges that the plan keeps and the cost of all edges but the candidate: it is the one at the
+ * end of the kept text that thinning_plan writes for the network with that edge reserved. The list may have any order
+ * and repeat an edge; for an empty one there are no frames, and their length is 0.
+ * Refusals: 1 to 7 of the network, as in its check, where the head's reserved edge counts too; then 3 if any number of
+ * the list is none of the network's edges; then 13.
+ * Room for k candidates: costs THINNING_COSTS_TEXT * k bytes. */
+uint32_t thinning_plan_candidates(const uint8_t *network, size_t network_len,
+                                  const uint16_t *reserved, size_t reserved_len,
+                                  uint8_t *costs, size_t costs_len,
+                                  size_t *written);
 
 /* Checks any bytes proposed as a chain over a network text: writes the kept text, and its length in bytes.
  * Refusals: 1 to 7 of the network, as in its check; then 1 and 8 to 12 of the chain, whichever comes first in it;

@@ -2,8 +2,8 @@
 //!
 //! Here every answer comes in vectors of its own. [`raw`] has the same services over slices that the caller lends.
 //!
-//! [`plan`], [`plan_table`] and [`check_chain`] go as deep as there are vertices: a thread that calls them needs 1.6 MB
-//! of stack for 256 vertices, which the threads of the standard library have.
+//! [`plan`], [`plan_candidates`], [`plan_table`] and [`check_chain`] go as deep as there are vertices: a thread that
+//! calls them needs 1.6 MB of stack for 256 vertices, which the threads of the standard library have.
 //!
 //! ```
 //! let network = b"0100020000\n\
@@ -14,6 +14,20 @@
 //! let plan = thinning::plan(network).unwrap();
 //! assert_eq!(plan.chain, b"040003\n");
 //! assert_eq!(thinning::check_chain(network, &plan.chain), Ok(plan.kept));
+//! ```
+//!
+//! Candidates for the reserved edge are tried on one network, here edges 3 and 0 of that one. Each gets the cost of
+//! what its plan keeps and the cost of all edges but it.
+//!
+//! ```
+//! # let network = b"0100020000\n\
+//! #     020000000000010000000000000005\n\
+//! #     02000100000001ffffffffffffffff\n\
+//! #     020002000000010000000000000003\n\
+//! #     020003000000010000000000000003\n";
+//! let costs = thinning::plan_candidates(network, &[3, 0]).unwrap();
+//! assert_eq!((costs[0].kept, costs[0].total), (2, 7));
+//! assert_eq!((costs[1].kept, costs[1].total), (2, 5));
 //! ```
 //!
 //! A page has a line for each listed edge, here for two of that network's, and their sum on its last line.
@@ -43,6 +57,7 @@
 
 #![deny(unsafe_code)]
 
+mod candidates;
 mod meanings;
 #[allow(unsafe_code)]
 pub mod raw;
@@ -50,6 +65,7 @@ mod refusal;
 mod tables;
 mod texts;
 
+pub use candidates::{plan_candidates, Costs};
 pub use meanings::{
     read_chain, read_list, read_network, write_chain, write_list, write_network, Chain, Network,
 };
@@ -75,3 +91,5 @@ pub const LIST_TEXT: usize = 3_584;
 pub const PAGE_TEXT: usize = 18_981;
 /// The most bytes of a table text.
 pub const TABLE_TEXT: usize = 14_863;
+/// The bytes of each candidate's frame.
+pub const COSTS_TEXT: usize = 35;

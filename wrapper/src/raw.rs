@@ -21,6 +21,15 @@ mod declared {
             chain_written: *mut usize,
             kept_written: *mut usize,
         ) -> u32;
+        pub fn thinning_plan_candidates(
+            network: *const u8,
+            network_len: usize,
+            reserved: *const u16,
+            reserved_len: usize,
+            costs: *mut u8,
+            costs_len: usize,
+            written: *mut usize,
+        ) -> u32;
         pub fn thinning_check_chain(
             network: *const u8,
             network_len: usize,
@@ -160,6 +169,28 @@ pub fn plan(
             kept.len(),
             chain_written,
             kept_written,
+        )
+    }
+}
+
+/// Plans a network text with each edge of a list reserved: a frame 06 for each, in the order of the list, and the
+/// length of them all. A frame has 35 bytes.
+pub fn plan_candidates(
+    network: &[u8],
+    reserved: &[u16],
+    costs: &mut [u8],
+    written: &mut usize,
+) -> u32 {
+    // SAFETY: text and list are slices that are only read; the buffer and the number are lent to this call alone.
+    unsafe {
+        declared::thinning_plan_candidates(
+            network.as_ptr(),
+            network.len(),
+            reserved.as_ptr(),
+            reserved.len(),
+            costs.as_mut_ptr(),
+            costs.len(),
+            written,
         )
     }
 }

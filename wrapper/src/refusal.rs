@@ -11,7 +11,7 @@ pub enum Refusal {
     Form = 1,
     /// The number of vertices is not 2 to 256.
     Vertices = 2,
-    /// The reserved edge is none of the network's.
+    /// The reserved edge, or a candidate for it, is none of the network's.
     Reserved = 3,
     /// An edge out of its place, or the ends of an edge or a span are not two vertices of the network, the lower one
     /// first.
@@ -73,7 +73,9 @@ impl Refusal {
         match self {
             Refusal::Form => "the form is broken",
             Refusal::Vertices => "the number of vertices is not 2 to 256",
-            Refusal::Reserved => "the reserved edge is none of the network's",
+            Refusal::Reserved => {
+                "the reserved edge, or a candidate for it, is none of the network's"
+            }
             Refusal::Edge => {
                 "an edge is out of its place, or the ends of an edge or a span are wrong"
             }

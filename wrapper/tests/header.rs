@@ -1,7 +1,8 @@
 //! The lengths of the header and those of the crate are the same.
 
 use thinning::{
-    CHAIN_TEXT, EDGES, KEPT_TEXT, LIST_TEXT, NETWORK_TEXT, PAGE_TEXT, STEPS, TABLE_TEXT, VERTICES,
+    CHAIN_TEXT, COSTS_TEXT, EDGES, KEPT_TEXT, LIST_TEXT, NETWORK_TEXT, PAGE_TEXT, STEPS,
+    TABLE_TEXT, VERTICES,
 };
 
 const HEADER: &str = include_str!("../../include/thinning.h");
@@ -23,6 +24,7 @@ fn the_header_has_the_same_lengths() {
         ("LIST_TEXT", LIST_TEXT),
         ("PAGE_TEXT", PAGE_TEXT),
         ("TABLE_TEXT", TABLE_TEXT),
+        ("COSTS_TEXT", COSTS_TEXT),
     ];
     assert_eq!(defined, due);
 }
