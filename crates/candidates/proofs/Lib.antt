@@ -2,3 +2,4 @@ pub mod Reserving
 pub mod Listing
 pub mod Answering
 pub mod Condition
+pub mod Examples

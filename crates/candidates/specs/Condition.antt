@@ -81,3 +81,11 @@ pub record CandidatesClaim : Type 0 where
   -- 'An empty list writes nothing and succeeds', into an empty buffer too
   pub none : (t costs : List ℕ) (g : Network) → acceptNetwork t ≡ answer g
       → (replyOf (candidatesText t []) costs ≡ Done 0) × (after (candidatesText t []) costs ≡ costs)
+
+-- ── wrong programs and definitions that the claim, or a promise by its words, shuts out: each has a must-fail edit ──
+--
+-- writes the frames in the order of the edges          `frames`                      list_sorted
+-- gives a number that stands twice one frame           `counted`                     repeat_left_out
+-- answers with the frames before a bad number          `any-refuses`                 frames_before_a_bad_number_written
+-- plans every candidate with the head's reserved edge  promise of `put_candidate`    heads_reserved_edge_for_all
+-- gives 13 before 3                                    promise of `plan_candidates`  short_before_a_bad_number

@@ -83,10 +83,12 @@ pub fn plan_candidates(network: &[u8], candidates: &[u16], costs: &mut [u8]) -> 
         return Reply::Refused(refusal);
     }
     let state = accepted.network;
-    if !are_edges(candidates, state.edges) {
+    let edges = are_edges(candidates, state.edges);
+    let room = costs.len() / length_of(COSTS);
+    if !edges {
         return Reply::Refused(RESERVED);
     }
-    if costs.len() / length_of(COSTS) < candidates.len() {
+    if room < candidates.len() {
         return Reply::Refused(SHORT);
     }
     Reply::Done(put_candidates(state, candidates, costs))

@@ -7,7 +7,7 @@ use lib.IntN.{pos, negsuc}
 use Rattle.base.specs.Answer.{answer, andThen, unless, refusalOf}
 use Rattle.frame.specs.Table.{kindOf, padded, bytesOf, total, placeOf, startOf, digitsOf, widths, lineLength}
 use Rattle.digits.specs.Hexadecimal.{valueOf, digitOf, allDigits, numberOf, spell}
-use Rattle.frame.specs.Line.{valuesOf, fieldsOf, isLine}
+use Rattle.frame.specs.Line.{spellAll, lineOf, valuesOf, fieldsOf, isLine}
 use Rattle.digits.specs.Sign.{signedOf}
 use Rattle.frame.specs.Kinds.{costDigits}
 use Rattle.frame.specs.Frames.{framesOf}
@@ -16,7 +16,7 @@ use Rattle.base.specs.Limits.{verticesOk, costOk}
 use Rattle.network_frames.specs.Frames.{headRefusal, edgeRefusal}
 use Rattle.network_text.proofs.OneToOne.{written-read}
 use Rattle.network_text.specs.Text.{Meaning, checked, meaningOf, inFrames, edgesOf}
-use Rattle.network_text.specs.Text.{readNetwork, writeNetwork}
+use Rattle.network_text.specs.Text.{readNetwork, writeNetwork, reservingText}
 
 -- lines by their digits, in front of what follows
 abbrev head : ℕ → List ℕ → List ℕ
@@ -137,3 +137,9 @@ unfolding readNetwork edgesOf inFrames framesOf isLine fieldsOf valuesOf numberO
     lineLength startOf placeOf total widths bytesOf padded digitsOf kindOf costDigits signedOf headRefusal edgeRefusal
     verticesOk costOk checked unless andThen meaningOf refusalOf
 cases-read = refl
+
+-- the printed text with edge 5 reserved has another head and the same lines behind it
+pub other-head : reservingText 5 printed ≡ head 0x0100030005 (most last)
+unfolding reservingText fieldsOf valuesOf numberOf valueOf digitOf spell spellAll lineOf lineLength startOf placeOf total
+    widths bytesOf padded kindOf
+other-head = refl

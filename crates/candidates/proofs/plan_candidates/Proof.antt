@@ -31,9 +31,9 @@ accepted : (c : tie.Else1) → acceptNetwork (entry (c .before) .args .network .
     ≡ answer (c .before .accept .result .network)
 accepted c = loaded-zero _ (accept-numbered _) (taken (c .before)) (c .if1 .left)
 
--- where the network is known to be accepted, seen from where the list was looked at
-abbrev known : tie.After-are-edges → tie.Else1
-known c = c .before .before
+-- where the network is known to be accepted, seen from where the buffer was measured
+abbrev known : tie.After-length-of → tie.Else1
+known c = c .before .before .before
 
 -- the costs that are due where all candidates are edges
 abbrev due : tie.Else2 → List ℕ
@@ -44,7 +44,7 @@ due c =
 all-edges : (c : tie.Else2) →
     let e = known (c .before) in
     areEdges (e .before .accept .result .network .edges) (entry (e .before) .args .candidates .now) ≡ true
-all-edges c = sym (c .before .are-edges .ensures) ∙ not-false _ (c .if2 .left)
+all-edges c = sym (c .before .before .are-edges .ensures) ∙ not-false _ (c .if2 .left)
 
 answered : (c : tie.Else2) →
     let a = entry (known (c .before) .before) .args in
@@ -70,36 +70,34 @@ returns c =
 are-edges-requires : tie.Need-are-edges-requires
 are-edges-requires c κs = search needs
 
+length-of-requires : tie.Need-length-of-requires
+length-of-requires c κs = search needs
+
+div-room : tie.Need-div-room
+div-room c = omega (arith, c .length-of .ensures, line-bytes)
+
 returns-2 : tie.Need-returns-2
 returns-2 c =
-    let q = c .before in
-    let e = known q in
+    let q = c .before .before in
+    let e = known (c .before) in
     let a = entry (e .before) .args in
     let none = sym (q .are-edges .ensures) ∙ not-true _ (c .if2 .taken) in
     refuses _ (a .costs .now) _ (list-refused (a .network .now) (a .candidates .now) _ (accepted e) none)
 
-length-of-requires : tie.Need-length-of-requires
-length-of-requires c κs = search needs
-
-div-if3 : tie.Need-div-if3
-div-if3 c = omega (arith, c .length-of .ensures, line-bytes)
-
 returns-3 : tie.Need-returns-3
 returns-3 c =
-    let l = c .before in
-    let e = l .before in
-    short _ _ (due e) (answered e) (room-short _ _ _ _ (l .length-of .ensures) (c .if3 .taken))
+    let e = c .before in
+    short _ _ (due e) (answered e) (room-short _ _ _ _ (e .before .length-of .ensures) (c .if3 .taken))
 
 put-candidates-requires : tie.Need-put-candidates-requires
 put-candidates-requires c κs =
-    let l = c .before .before in
-    let e = l .before in
+    let e = c .before .before in
     let w = accepted-whole _ _ (accepted (known (e .before))) in
     record {
       known = w .known;
       passed = w .passed;
       below = edges-below _ _ (all-edges e);
-      long = room-enough _ _ _ _ (l .length-of .ensures) (c .before .if3 .left);
+      long = room-enough _ _ _ _ (e .before .length-of .ensures) (c .before .if3 .left);
     }
 
 same-length : tie.Need-same-length
@@ -109,10 +107,9 @@ returns-4 : tie.Need-returns-4
 returns-4 c =
     let p = c .before .before in
     let k = p .before .before in
-    let l = k .before in
-    let e = l .before in
+    let e = k .before in
     let old = entry (known (e .before) .before) .args .costs .now in
-    let f = fits _ old (due e) (answered e) (room-enough _ _ _ _ (l .length-of .ensures) (k .if3 .left)) in
+    let f = fits _ old (due e) (answered e) (room-enough _ _ _ _ (e .before .length-of .ensures) (k .if3 .left)) in
     (ap Done (p .put-candidates .ensures .0) ∙ f .0, p .put-candidates .ensures .1 ∙ f .1)
 
 pub plan-candidates-spec : {M : Type 1} → statement M
@@ -123,9 +120,9 @@ plan-candidates-spec =
     accept-requires
     returns
     are-edges-requires
-    returns-2
     length-of-requires
-    div-if3
+    div-room
+    returns-2
     returns-3
     put-candidates-requires
     same-length
