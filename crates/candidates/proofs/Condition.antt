@@ -144,7 +144,8 @@ module _ (t rs text : List ℕ) (x : candidatesText t rs ≡ answer text) where
 
 -- a frame's costs are those of its plan
 costs-are : (g : Network) → Light g
-    → costsIn (planCosts g) ≡ record { kept = keptCost g (planKept (g .remaining - 2) g); unreserved = allButReserved g }
+    → costsIn (planCosts g)
+    ≡ record { kept = keptCost g (planKept (g .remaining - 2) g); unreserved = allButReserved g }
 unfolding planCosts keptText listText linesOf
 costs-are g light = costs-in g light (planKept (g .remaining - 2) g) []
 
@@ -209,7 +210,8 @@ candidates-claim =
       network-first = network-refused;
       nothing-written = λ t rs k e costs. let w = refuses (candidatesText t rs) costs k e in (sym (w .0), sym (w .1));
       short = λ t rs text costs x l.
-          let w = short (candidatesText t rs) costs text x (omega (arith, counted t rs text x)) in (sym (w .0), sym (w .1));
+          let n = counted t rs text x in
+          let w = short (candidatesText t rs) costs text x (omega arith) in (sym (w .0), sym (w .1));
       written = λ t rs text costs x l.
           let n = counted t rs text x in
           let w = fits (candidatesText t rs) costs text x (omega arith) in (sym (w .0) ∙ ap Done n, sym (w .1));

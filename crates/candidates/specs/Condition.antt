@@ -1,4 +1,4 @@
--- What is owed of candidates, over texts, replies and buffers: their costs are those of single plans, frame after frame.
+-- What is owed of candidates, over texts, replies and buffers: their frames are those of single plans, one by one.
 use mathlib.Core.List.{List, [], _∷_, _++_}
 use mathlib.Core.Logic.{_↔_}
 use mathlib.Core.Path.{_≡_}

@@ -66,8 +66,8 @@ unfolding textOfDistrict chain sameNumbers answers writes refusedBy holdsOfTexts
     placeOf total widths bytesOf padded digitsOf kindOf digitOf spell valueOf numberOf allDigits isLine fieldsOf
     valuesOf spellAll lineOf framesOf linesOf costDigits keptDigits unreservedDigits signedOf unsignedOf verticesOk
     costOk unless headRefusal edgeRefusal checked meaningOf inFrames edgesOf readNetwork edgesIn edgesText networkText
-    textOf chainText listText keptEdges costsText keptText stateOf networkOf loadNetwork fold pick only among tabulate endsAt
-    degree touches far costOver differ crosses crossingsOf everySide somewhere crossedBy everyCutOf fourEach
+    textOf chainText listText keptEdges costsText keptText stateOf networkOf loadNetwork fold pick only among tabulate
+    endsAt degree touches far costOver differ crosses crossingsOf everySide somewhere crossedBy everyCutOf fourEach
     networkRefusal isPartner partners split splitWith admissible third after stepRefusal lastEdges dearest endRefusal
     marks endKept lift lifted chosenVertex ordered chosenPair chosenStep dearestOf chosenDrop planSteps planDrop
     planKept checkEnding checkChain planChain acceptNetwork keptTextOf keptIn checkChainText textsOf planText

@@ -128,7 +128,8 @@ costs-left es kept unreserved old out at n e h =
     (written-front (listText es) (costsText kept unreserved) old out at n e h)
 
 -- a kept text ends with them
-pub costs-last : (es : List ℕ) (kept unreserved : ℤ) → costsEnd (keptText es kept unreserved) ≡ costsText kept unreserved
+pub costs-last : (es : List ℕ) (kept unreserved : ℤ)
+    → costsEnd (keptText es kept unreserved) ≡ costsText kept unreserved
 unfolding costsEnd keptText
 costs-last es kept unreserved =
     let costs = costsText kept unreserved in

@@ -140,6 +140,6 @@ cases-read = refl
 
 -- the printed text with edge 5 reserved has another head and the same lines behind it
 pub other-head : reservingText 5 printed ≡ head 0x0100030005 (most last)
-unfolding reservingText fieldsOf valuesOf numberOf valueOf digitOf spell spellAll lineOf lineLength startOf placeOf total
-    widths bytesOf padded kindOf
+unfolding reservingText fieldsOf valuesOf numberOf valueOf digitOf spell spellAll lineOf lineLength startOf placeOf
+    total widths bytesOf padded kindOf
 other-head = refl

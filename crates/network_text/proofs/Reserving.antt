@@ -43,7 +43,7 @@ module _ (t : List ℕ) (m : Meaning) (r : ℕ) (x : readNetwork t ≡ answer m)
       let p = parts t m x in
       let f = ofHead (record { vertices = headOf (fieldsOf HEAD t) .vertices; reserved = r }) in
       let rest = drop (lineLength HEAD) t in
-      let n : headOf (fieldsOf HEAD t) .vertices ≡ p .head .vertices = sym (ap (λ (h : Head). h .vertices) (p .head-is)) in
+      let n = sym (ap (λ (h : Head). h .vertices) (p .head-is)) in
       rw (line-is HEAD f rest, line-rest HEAD f rest, fields-found HEAD f rest (head-fits small), n, p .read)
       (ap (λ (w : Meaning). unless (headRefusal (w .vertices) r) (answer (reservingMeaning r w))) (sym (p .meaning)))
 

@@ -50,7 +50,8 @@ loop-again c =
     let k = c .before .before .before in
     let a = entry k .args in
     let h = c .before .before .loop-test .taken in
-    (search needs, edges-on (a .edges) (a .candidates .now) (k .loop .i) h (omega (arith, c .if1 .left)) ∙ k .loop .inv .1)
+    let on = edges-on (a .edges) (a .candidates .now) (k .loop .i) h (omega (arith, c .if1 .left)) in
+    (search needs, on ∙ k .loop .inv .1)
 
 returns-2 : tie.Need-returns-2 Inv-loop μ-loop
 returns-2 c =
