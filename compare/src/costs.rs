@@ -1,11 +1,11 @@
 //! Costs on both sides of their limits, of an edge and of a span, and frames with other fields.
 
 use second::generate::{self, CostAim, NetworkAim, Rng, TableAim};
-use second::lengths::edge_column;
+use second::lengths::{candidates_text, edge_column};
 use second::Refusal;
 
 use crate::difference::{Compared, Difference, Given, Text};
-use crate::{chains, lists, networks, pages, tables};
+use crate::{candidates, chains, lists, networks, pages, tables};
 
 /// Networks of more vertices take long, since many are planned.
 const MOST_VERTICES: usize = 20;
@@ -33,8 +33,16 @@ pub fn edges(rng: &mut Rng) -> Compared {
         chains::check(rng, text, &chain, true)?;
         lists::audit(rng, text, &list)?;
         pages::print(rng, text, &list)?;
+        candidate(rng, text, &all)?;
     }
     Ok(())
+}
+
+/// The frame of one candidate out of all edges, with an exact buffer.
+fn candidate(rng: &mut Rng, network: &[u8], all: &[u16]) -> Compared {
+    let reserved = [rng.pick(all)];
+    let due = second::plan_candidates(network, &reserved);
+    candidates::plan_into(rng, network, &reserved, &due, candidates_text(1))
 }
 
 /// All services on tables with every sort of cost, and with frames that have other fields.

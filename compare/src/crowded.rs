@@ -6,7 +6,10 @@ use second::refusal::NOT_FOUR_REGULAR;
 
 use crate::buffers::due_length;
 use crate::difference::{Compared, Difference, Given, Text};
-use crate::{chains, lists, networks, pages};
+use crate::{candidates, chains, lists, networks, pages};
+
+/// Candidates that every network has: if the fault is missed, they don't give a refusal instead.
+const CANDIDATES: [u16; 2] = [1, 0];
 
 /// A text of a crowded network and the fault in it, with a chain and a list that have the
 /// right form: if the fault is missed, they don't give its refusal instead.
@@ -72,7 +75,8 @@ pub fn services(rng: &mut Rng, case: &Case) -> Compared {
     let length = due_length::<u8>(rng, None);
     chains::check_into(rng, text, chain, &[], Some(refusal), length)?;
     lists::audit(rng, text, list)?;
-    pages::print(rng, text, list)
+    pages::print(rng, text, list)?;
+    candidates::plan(rng, text, &CANDIDATES)
 }
 
 /// The second program's services give the refusal of the fault; its audit and its page don't look
@@ -92,6 +96,11 @@ fn meets(case: &Case) -> Compared {
         ("chain check", due, second::check_chain(text, chain).err()),
         ("audit", read, second::audit(text, list).err()),
         ("page", read, second::print_page(text, list).err()),
+        (
+            "candidates",
+            due,
+            second::plan_candidates(text, &CANDIDATES).err(),
+        ),
     ] {
         if answer != due {
             let given: &Given = &[("network", &Text(text))];

@@ -4,6 +4,7 @@
 //! run on a thread with that stack, and the plan program runs as a process with it, each held to
 //! the second program. A call that goes deeper ends the program. Crowded networks, among them ones
 //! whose edges all run between two vertices, come with every fault of their texts and with none.
+//! Each network is planned for a few candidates.
 
 use std::fmt::Debug;
 use std::thread::{self, Scope, ScopedJoinHandle};
@@ -11,11 +12,11 @@ use std::thread::{self, Scope, ScopedJoinHandle};
 use second::generate::{
     self, aimed_chain, Aim, CostStyle, Crowd, Family, ListStyle, PrintedCosts, Rng, TableAim,
 };
-use second::lengths::LONGEST_NETWORK_TEXT;
+use second::lengths::{candidates_text, LONGEST_NETWORK_TEXT};
 use second::{read_kept, write_chain, Network, Plan, Table};
 
 use crate::difference::{Compared, Difference, Given, Text, Words};
-use crate::{chains, crowded, lists, networks, pages, program, tables};
+use crate::{candidates, chains, crowded, lists, networks, pages, program, tables};
 
 const VERTICES: usize = 256;
 const SEED: u64 = 1;
@@ -140,6 +141,7 @@ fn compare_network(family: Family, short: Short, place: usize) -> (String, Compa
             largest_total(&mut rng)?;
         }
         printed(&mut rng, &case)?;
+        tried(&mut rng, &case)?;
         program::plan_on_stack(&case.text, PROGRAM_STACK)
     });
     (name, compared)
@@ -234,7 +236,7 @@ fn wrong_chain(rng: &mut Rng, case: &Case, place: usize) -> Compared {
 /// The planner's chain, but that it drops the reserved edge.
 fn wrong_ending(case: &Case) -> Vec<u8> {
     let mut chain = second::read_chain(VERTICES, &case.plan.chain).expect("it is a chain");
-    chain.dropped = u16::try_from(case.network.reserved).expect("there are few edges");
+    chain.dropped = as_number(case.network.reserved);
     write_chain(VERTICES, &chain).expect("it has all its steps")
 }
 
@@ -254,7 +256,7 @@ fn audits(rng: &mut Rng, case: &Case) -> Compared {
     let network = &case.network;
     let kept = read_kept(&case.plan.kept).expect("it is a kept text").edges;
     let all: Vec<u16> = (0..).take(network.edges.len()).collect();
-    let alone = u16::try_from(rng.below(VERTICES)).expect("there are few vertices");
+    let alone = as_number(rng.below(VERTICES));
     let (at_one, elsewhere): (Vec<u16>, Vec<u16>) = all.iter().partition(|&&number| {
         let edge = network.edges[usize::from(number)];
         edge.low == alone || edge.high == alone
@@ -304,6 +306,27 @@ fn printed(rng: &mut Rng, case: &Case) -> Compared {
         pages::print_list(rng, &network, &all)?;
     }
     Ok(())
+}
+
+/// The network's own reserved edge and another one as candidates, the other one twice, with a buffer
+/// that is exact and one that is a byte short; then with a number behind them that no edge has.
+fn tried(rng: &mut Rng, case: &Case) -> Compared {
+    let Case { network, text, .. } = case;
+    let own = as_number(network.reserved);
+    let other = as_number((network.reserved + rng.between(1, 2 * VERTICES - 1)) % (2 * VERTICES));
+    let reserved = [other, own, other];
+    let due = second::plan_candidates(text, &reserved);
+    let exact = candidates_text(reserved.len());
+    for length in [exact, exact - 1] {
+        candidates::plan_into(rng, text, &reserved, &due, length)?;
+    }
+    candidates::Singles::new(network.clone()).compare(&reserved, &due)?;
+    candidates::plan(rng, text, &[other, own, as_number(2 * VERTICES)])
+}
+
+/// A vertex or an edge as a number of two bytes.
+fn as_number(place: usize) -> u16 {
+    u16::try_from(place).expect("there are few vertices and edges")
 }
 
 /// Check, plan and network of a table, which is accepted.

@@ -15,6 +15,7 @@ use arguments::{Work, USAGE};
 
 mod arguments;
 mod buffers;
+mod candidates;
 mod chains;
 mod costs;
 mod crowded;

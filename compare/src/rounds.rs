@@ -6,13 +6,13 @@ use std::panic::{self, AssertUnwindSafe};
 use second::generate::Rng;
 
 use crate::difference::{Compared, Difference, Words};
-use crate::{chains, costs, crowded, lists, networks, pages, program, tables, vectors};
+use crate::{candidates, chains, costs, crowded, lists, networks, pages, program, tables, vectors};
 
 /// A part of a round and its name.
 type Part = (&'static str, fn(&mut Rng) -> Compared);
 
 /// New parts stand last, so that those before them keep their numbers.
-const PARTS: [Part; 21] = [
+const PARTS: [Part; 24] = [
     ("program", program::plan),
     ("network-texts", networks::texts),
     ("network-columns", networks::columns),
@@ -34,6 +34,9 @@ const PARTS: [Part; 21] = [
     ("page-vectors", vectors::pages),
     ("edge-costs", costs::edges),
     ("span-costs", costs::spans),
+    ("candidates", candidates::lists),
+    ("candidate-refusals", candidates::refusals),
+    ("candidate-vectors", vectors::candidates),
 ];
 
 /// Runs all rounds, and says how many differences were met.
@@ -118,8 +121,10 @@ mod tests {
     use std::collections::{BTreeMap, BTreeSet};
 
     use second::audit::audit_list;
-    use second::generate::{self, EDGE_AS_SPAN, NARROW_EDGE, NARROW_SPAN, SPAN_AS_EDGE};
-    use second::lengths::fits;
+    use second::generate::{
+        self, EDGE_AS_SPAN, MANY_CANDIDATES, NARROW_EDGE, NARROW_SPAN, SPAN_AS_EDGE,
+    };
+    use second::lengths::{candidates_text, fits};
     use second::lines::{Lines, Shape, EDGE, HEAD, SPAN, TABLE_HEAD};
     use second::texts::COST_LIMIT;
     use second::Network;
@@ -215,6 +220,116 @@ mod tests {
             let every_pair = NETWORK_ANSWERS.into_iter().flat_map(with_every_list);
             assert_eq!(pairs, every_pair.collect());
             assert_eq!(answers, BTreeSet::from(PAGE_ANSWERS));
+        }
+    }
+
+    /// Sorts of lists of candidates: with no number, with right ones alone, or by where the wrong one
+    /// stands.
+    const CANDIDATE_LISTS: [&str; 6] = ["none", "right", "first", "middle", "last", "alone"];
+
+    /// The sort of a list over a network of so many edges.
+    fn sort_of(reserved: &[u16], edges: usize) -> &'static str {
+        let wrong = |&edge: &u16| usize::from(edge) >= edges;
+        match reserved.iter().position(wrong) {
+            None if reserved.is_empty() => "none",
+            None => "right",
+            Some(_) if reserved.len() == 1 => "alone",
+            Some(0) => "first",
+            Some(place) if place + 1 == reserved.len() => "last",
+            Some(_) => "middle",
+        }
+    }
+
+    /// What a network with this answer of its check and a list of this sort may answer.
+    fn candidate_answers(of_network: u8, sort: &str) -> Vec<u8> {
+        match (of_network, sort) {
+            (0, "none") => vec![0],
+            (0, "right") => vec![0, 13],
+            (0, _) => vec![3],
+            _ => vec![of_network],
+        }
+    }
+
+    #[test]
+    fn every_round_has_candidates_of_every_answer() {
+        let every_pair = NETWORK_ANSWERS
+            .into_iter()
+            .flat_map(|of_network| CANDIDATE_LISTS.map(|sort| (of_network, sort)));
+        let due: BTreeSet<_> = every_pair
+            .flat_map(|(of_network, sort)| {
+                let answers = candidate_answers(of_network, sort).into_iter();
+                answers.map(move |answer| (of_network, sort, answer))
+            })
+            .collect();
+        for (part, mut rng) in (1..=40).flat_map(parts) {
+            if part.0 != "candidate-refusals" {
+                continue;
+            }
+            let cases = candidates::every_fault(&mut rng);
+            let accepted = second::read_network(&cases[0].network).expect("it is accepted");
+            let mut met = BTreeSet::new();
+            for case in cases {
+                let of_network = second::check_network(&case.network).err().unwrap_or(0);
+                let sort = sort_of(&case.reserved, accepted.edges.len());
+                let frames = second::plan_candidates(&case.network, &case.reserved);
+                let lengths = candidates::frame_lengths(&mut rng, &case.reserved);
+                // Empty, and long enough for a frame of every number in the list.
+                let enough = candidates_text(case.reserved.len());
+                assert!(lengths.contains(&0) && lengths.contains(&enough));
+                for length in lengths {
+                    let due = frames.as_ref().map_err(|&refusal| refusal);
+                    let answer = due.and_then(|frames| fits(frames.len(), length));
+                    met.insert((of_network, sort, answer.err().unwrap_or(0)));
+                }
+            }
+            assert_eq!(met, due);
+        }
+    }
+
+    #[test]
+    fn few_rounds_have_every_wrong_candidate() {
+        let mut met = BTreeSet::new();
+        for (part, mut rng) in (1..=200).flat_map(parts) {
+            if part.0 != "candidate-refusals" {
+                continue;
+            }
+            let cases = candidates::every_fault(&mut rng);
+            let accepted = second::read_network(&cases[0].network).expect("it is accepted");
+            let edges = accepted.edges.len();
+            for case in cases.iter().filter(|case| case.of_network.is_none()) {
+                let numbers = case.reserved.iter().map(|&edge| usize::from(edge));
+                let wrong = numbers.filter(|&edge| edge >= edges);
+                let sort = sort_of(&case.reserved, edges);
+                met.extend(wrong.map(|edge| (sort, edge == edges, edge == 65_535)));
+            }
+        }
+        let next_highest_other = [(true, false), (false, true), (false, false)];
+        let due = CANDIDATE_LISTS[2..]
+            .iter()
+            .flat_map(|&sort| next_highest_other.map(|(next, highest)| (sort, next, highest)));
+        assert_eq!(met, due.collect());
+    }
+
+    #[test]
+    fn every_round_has_candidates_of_every_sort() {
+        for (part, mut rng) in (1..=40).flat_map(parts) {
+            if part.0 != "candidates" {
+                continue;
+            }
+            let [(small, lists), (_, few)] = candidates::tried(&mut rng);
+            let all: Vec<u16> = (0..).take(small.edges.len()).collect();
+            let different = |list: &Vec<u16>| list.iter().collect::<BTreeSet<_>>().len();
+            let sorted = |list: &Vec<u16>| {
+                let mut list = list.clone();
+                list.sort_unstable();
+                list
+            };
+            assert!(lists.contains(&all) && lists.contains(&Vec::new()));
+            assert!(lists.iter().filter(|&list| sorted(list) == all).count() > 1);
+            assert!(lists.iter().any(|list| list.len() == 1));
+            assert!(lists.iter().any(|list| list.len() == MANY_CANDIDATES));
+            assert!(lists.iter().any(|list| different(list) < list.len()));
+            assert!(few.iter().all(|list| !list.is_empty()));
         }
     }
 
@@ -324,6 +439,7 @@ mod tests {
             }
             "half-built-audits" => lists::half_built(rng).map(|(network, _)| network).into(),
             "pages" => pages::printable(rng).map(|(network, _)| network).into(),
+            "candidates" => candidates::tried(rng).map(|(network, _)| network).into(),
             _ => Vec::new(),
         }
     }
@@ -339,7 +455,7 @@ mod tests {
                 *all += 1;
             }
         }
-        assert_eq!(counted.len(), 7);
+        assert_eq!(counted.len(), 8);
         for (part, [wide, all]) in counted {
             assert!(2 * wide > all, "{part}: {wide} of {all}");
         }

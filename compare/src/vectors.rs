@@ -2,9 +2,10 @@
 
 use std::fmt::Debug;
 
-use second::generate::{self, chain_by_rule, changed_chain, Rng};
+use second::generate::{self, chain_by_rule, changed_chain, CandidateStyle, Rng, WrongPlace};
 use second::{columns, Refusal};
 
+use crate::costs::some_vertices;
 use crate::difference::{Compared, Difference, Given, Text};
 use crate::networks::{any_text, MANY_VERTICES};
 use crate::tables::every_sort;
@@ -143,6 +144,31 @@ pub fn pages(rng: &mut Rng) -> Compared {
     Ok(())
 }
 
+/// Sums of candidates, of a few, of none and with a wrong number, over an accepted network, and of
+/// one over any text.
+pub fn candidates(rng: &mut Rng) -> Compared {
+    let vertices = some_vertices(rng);
+    let network = generate::network(rng, vertices);
+    let few = generate::candidates_of(rng, &network, CandidateStyle::Few);
+    let place = rng.pick(&WrongPlace::ALL);
+    let (wrong, _) = generate::aimed_candidates(rng, &network, place);
+    let text = generate::text(&network);
+    for reserved in [&few[..], &wrong, &[]] {
+        some_candidates(&text, reserved)?;
+    }
+    some_candidates(&any_text(rng), &few[..1])
+}
+
+fn some_candidates(network: &[u8], reserved: &[u16]) -> Compared {
+    let shown: &Given = &[("network", &Text(network)), ("reserved", &reserved)];
+    let costs = thinning::plan_candidates(network, reserved)
+        .map(|all| all.iter().map(|costs| (costs.kept, costs.total)).collect());
+    let due = second::plan_candidates(network, reserved)
+        .and_then(|frames| second::read_candidates(&frames))
+        .map(|all| all.iter().map(|sums| (sums.cost, sums.total)).collect());
+    same::<Vec<(i64, i64)>>("candidates", shown, costs, due)
+}
+
 /// Check, plan and network of tables.
 pub fn tables(rng: &mut Rng) -> Compared {
     for text in every_sort(rng)? {
@@ -162,8 +188,8 @@ pub fn tables(rng: &mut Rng) -> Compared {
 #[cfg(test)]
 mod tests {
     use second::lengths::{
-        edge_column, kept_text, step_column, LONGEST_CHAIN_TEXT, LONGEST_LIST_TEXT,
-        LONGEST_NETWORK_TEXT, LONGEST_PAGE, LONGEST_TABLE_TEXT,
+        candidates_text, edge_column, kept_text, step_column, LONGEST_CHAIN_TEXT,
+        LONGEST_LIST_TEXT, LONGEST_NETWORK_TEXT, LONGEST_PAGE, LONGEST_TABLE_TEXT,
     };
     use second::texts::MOST_VERTICES;
 
@@ -180,5 +206,6 @@ mod tests {
         assert_eq!(thinning::LIST_TEXT, LONGEST_LIST_TEXT);
         assert_eq!(thinning::PAGE_TEXT, LONGEST_PAGE);
         assert_eq!(thinning::TABLE_TEXT, LONGEST_TABLE_TEXT);
+        assert_eq!(thinning::COSTS_TEXT, candidates_text(1));
     }
 }

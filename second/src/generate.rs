@@ -1,7 +1,9 @@
-//! Pseudo-random networks, texts, chains, lists, tables and costs to print, to compare answers on.
+//! Pseudo-random networks, texts, chains, lists, candidates, tables and costs to print, to compare
+//! answers on.
 //!
 //! Everything follows from the seed of a [`Rng`].
 
+mod candidates;
 mod chains;
 mod costs;
 mod crowded;
@@ -14,6 +16,9 @@ mod rng;
 mod shapes;
 mod tables;
 
+pub use candidates::{
+    aimed_candidates, candidates, candidates_of, CandidateStyle, WrongPlace, MANY_CANDIDATES,
+};
 pub use chains::{aimed_chain, chain_by_rule, changed_chain, Aim, Aimed};
 pub use costs::{CostAim, CostStyle};
 pub use crowded::{crowded_network, faulty_text, Crowd, FrameFault, FEWEST_CROWDING};

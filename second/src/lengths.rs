@@ -25,6 +25,11 @@ pub const fn kept_text(edges: usize) -> usize {
     edges * LISTED.line_length() + SUMS.line_length()
 }
 
+/// Bytes of the frames 06 of so many candidates.
+pub const fn candidates_text(candidates: usize) -> usize {
+    candidates * SUMS.line_length()
+}
+
 /// Bytes of the page of so many edges: a line for each, and one for the sum.
 pub const fn page(edges: usize) -> usize {
     (edges + 1) * LINE_LENGTH
@@ -82,6 +87,7 @@ mod tests {
         assert_eq!(LONGEST_PAGE, 18_981);
         assert_eq!(LONGEST_TABLE_TEXT, 14_863);
         assert_eq!(kept_text(0), 35);
+        assert_eq!([0, 1, 40].map(candidates_text), [0, 35, 1_400]);
         assert_eq!(page(0), 37);
         assert_eq!(refusal_line(), 5);
     }

@@ -17,6 +17,7 @@
 //! ```
 
 pub mod audit;
+pub mod candidates;
 pub mod chain;
 pub mod columns;
 pub mod cuts;
@@ -33,6 +34,7 @@ pub mod texts;
 pub mod working;
 
 pub use audit::{audit, Audit};
+pub use candidates::{plan_candidates_by, read_candidates, Sums};
 pub use chain::{check_chain_by, plan_by, Plan};
 pub use network::Method;
 pub use page::{print_page, read_page, Page};
@@ -58,6 +60,12 @@ pub fn check_network_by(text: &[u8], method: Method) -> Result<(), Refusal> {
 /// Plans a network text: chain and kept text, or refusals 1 to 7.
 pub fn plan(text: &[u8]) -> Result<Plan, Refusal> {
     plan_by(text, Method::Mixed)
+}
+
+/// Plans a network text with each listed edge reserved in turn: a frame 06 for each, or refusals
+/// 1 to 7, then 3 for the list.
+pub fn plan_candidates(network: &[u8], reserved: &[u16]) -> Result<Vec<u8>, Refusal> {
+    plan_candidates_by(network, reserved, Method::Mixed)
 }
 
 /// Checks any bytes as a chain over a network text: the kept text, or refusals 1 to 12.

@@ -1,6 +1,7 @@
-//! What holds of every kept text, checked without the chain it came from, and of every page,
-//! checked without printing one.
+//! What holds of every kept text, checked without the chain it came from, of the sums of every
+//! candidate, checked without a plan, and of every page, checked without printing one.
 
+use crate::candidates::{read_candidates, Sums};
 use crate::cuts::Multigraph;
 use crate::network::Method;
 use crate::page::{read_page, Page};
@@ -27,18 +28,50 @@ pub fn judge_kept(network_text: &[u8], kept_text: &[u8]) -> Result<(), String> {
     }
 
     let cost: i64 = numbers.iter().map(|&edge| network.edges[edge].cost).sum();
-    let total: i64 = (0..network.edges.len())
-        .filter(|&edge| edge != network.reserved)
-        .map(|edge| network.edges[edge].cost)
-        .sum();
+    let total = all_but(&network, network.reserved);
     if (cost, total) != (kept.cost, kept.total) {
         return Err(format!("the sums are {cost} and {total}"));
     }
-    if 3 * cost > 2 * total {
-        return Err(format!("{cost} is above two thirds of {total}"));
-    }
+    judge_ratio(cost, total)?;
     if !every_cut_has_two(&network, &numbers) {
         return Err("a cut is crossed by fewer than two kept edges".to_owned());
+    }
+    Ok(())
+}
+
+/// The sum of the costs of all edges but one.
+fn all_but(network: &Network, reserved: usize) -> i64 {
+    (0..network.edges.len())
+        .filter(|&edge| edge != reserved)
+        .map(|edge| network.edges[edge].cost)
+        .sum()
+}
+
+/// Whether a kept cost is at most two thirds of the total, whatever both are.
+fn judge_ratio(cost: i64, total: i64) -> Result<(), String> {
+    if 3 * i128::from(cost) > 2 * i128::from(total) {
+        Err(format!("{cost} is above two thirds of {total}"))
+    } else {
+        Ok(())
+    }
+}
+
+/// Says what is wrong with the frames 06 of candidates over a network, if anything is.
+///
+/// Looked at: form, one frame for each candidate in list order, by the sum of all edges but that
+/// one, and the ratio of two thirds.
+pub fn judge_candidates(network_text: &[u8], reserved: &[u16], text: &[u8]) -> Result<(), String> {
+    let network = read_network(network_text).map_err(|r| format!("network refused by {r}"))?;
+    let sums = read_candidates(text).map_err(|_| "broken frames".to_owned())?;
+    if sums.len() != reserved.len() {
+        return Err(format!("{} frames", sums.len()));
+    }
+    for (&edge, Sums { cost, total }) in reserved.iter().zip(sums) {
+        let due = all_but(&network, edge.into());
+        if total != due {
+            return Err(format!("the sum of all but {edge} is {due}"));
+        }
+        judge_ratio(cost, total)?;
     }
     Ok(())
 }
@@ -140,6 +173,27 @@ mod tests {
         assert!(judge(&[1], -1, 5).is_err());
         assert!(judge_kept(TWO, b"").is_err());
         assert!(judge_kept(b"", b"").is_err());
+    }
+
+    #[test]
+    fn each_fault_of_candidates_is_found() {
+        let kept = |cost, total| {
+            let edges = Vec::new();
+            write_kept(&Kept { edges, cost, total })
+        };
+        // The edges cost 5, -1, 3 and 3.
+        let (first, second) = (kept(2, 5), kept(7, 11));
+        let both = [&first[..], &second].concat();
+        assert_eq!(judge_candidates(TWO, &[0, 1], &both), Ok(()));
+        assert_eq!(judge_candidates(TWO, &[0], &first), Ok(()));
+        assert_eq!(judge_candidates(TWO, &[], b""), Ok(()));
+        assert!(judge_candidates(TWO, &[1, 0], &both).is_err());
+        assert!(judge_candidates(TWO, &[0], &both).is_err());
+        assert!(judge_candidates(TWO, &[0, 1], &first).is_err());
+        assert!(judge_candidates(TWO, &[0], &kept(4, 5)).is_err());
+        assert!(judge_candidates(TWO, &[0], &kept(2, 10)).is_err());
+        assert!(judge_candidates(TWO, &[0], &first[1..]).is_err());
+        assert!(judge_candidates(b"", &[], b"").is_err());
     }
 
     #[test]

@@ -7,7 +7,7 @@ pub type Refusal = u8;
 pub const BROKEN_TEXT: Refusal = 1;
 /// A count of vertices outside 2 to 256.
 pub const BAD_VERTEX_COUNT: Refusal = 2;
-/// A reserved edge that isn't below twice the count of vertices.
+/// A reserved edge, or a candidate for it, that isn't below twice the count of vertices.
 pub const BAD_RESERVED: Refusal = 3;
 /// An edge number other than its place; an end too high, or ends out of order, of a span too.
 pub const BAD_EDGE: Refusal = 4;

@@ -216,8 +216,13 @@ pub fn write_kept(kept: &Kept) -> Vec<u8> {
     for &edge in &kept.edges {
         LISTED.write([edge.into()], &mut text);
     }
-    SUMS.write([kept.cost, kept.total], &mut text);
+    write_sums(kept, &mut text);
     text
+}
+
+/// Appends the frame 06 of a kept text.
+pub fn write_sums(kept: &Kept, text: &mut Vec<u8>) {
+    SUMS.write([kept.cost, kept.total], text);
 }
 
 /// Reads the form of a kept text; whether its numbers are right isn't looked at.
@@ -254,6 +259,11 @@ fn check_vertex_count(vertices: usize) -> Result<(), Refusal> {
 
 pub(crate) fn check_head(vertices: usize, reserved: usize) -> Result<(), Refusal> {
     check_vertex_count(vertices)?;
+    check_reserved(vertices, reserved)
+}
+
+/// A reserved edge, in a head or in a list of candidates.
+pub(crate) fn check_reserved(vertices: usize, reserved: usize) -> Result<(), Refusal> {
     if reserved < 2 * vertices {
         Ok(())
     } else {
