@@ -1,21 +1,33 @@
-//! A line about candidates for the reserved edge: one call for all of them, and single plans.
+//! A table about candidates for the reserved edge: one call for forty of them, and forty single plans.
 
-use second::generate::{self, Family, Rng};
+use second::generate::{self, Rng};
 use second::texts::MOST_VERTICES;
 use thinning::{raw, COSTS_TEXT};
 
-use crate::{milliseconds, network, ratio, shortest, work, SEED};
+use crate::{milliseconds, network, ratio, shortest, work, Given, RUNS, SEED};
 
 /// How many edges are tried.
 const CANDIDATES: usize = 40;
-/// Each run has forty plans twice, which take seconds.
-const RUNS: usize = 4;
+/// A run at the most vertices has forty plans twice, which take seconds.
+const LONG_RUNS: usize = 5;
 
-/// Prints how long one call takes for the candidates, how long their single plans take and how long as many checks, and
-/// what is left of the plans without the checks, with the ratio of the one call to that.
-pub fn line(family: Family) {
-    let mut network = network(family, MOST_VERTICES);
-    let text = &generate::text(&network);
+/// The line above the table.
+pub fn heading() {
+    println!(
+        "{:<12} {:>8} {:>12} {:>12} {:>12} {:>12} {:>6}",
+        "family", "vertices", "candidates", "plans", "checks", "difference", "ratio"
+    );
+}
+
+/// Prints how long one call takes for forty candidates, how long their single plans take and how long as many checks,
+/// what is left of the plans without the checks, and the ratio of the one call to that.
+pub fn line(given: &Given) {
+    let Given {
+        family,
+        vertices,
+        text,
+    } = given;
+    let mut network = network(*family, *vertices);
     let mut candidates: Vec<u16> = (0..).take(network.edges.len()).collect();
     Rng::new(SEED).shuffle(&mut candidates);
     candidates.truncate(CANDIDATES);
@@ -30,8 +42,13 @@ pub fn line(family: Family) {
     let mut costs = vec![0; CANDIDATES * COSTS_TEXT];
     let mut written = 0;
     let mut kept_ends = Vec::new();
+    let runs = if *vertices < MOST_VERTICES {
+        RUNS
+    } else {
+        LONG_RUNS
+    };
     let [one_call, plans, checks] = shortest(
-        RUNS,
+        runs,
         [
             work(|| raw::plan_candidates(text, &candidates, &mut costs, &mut written)),
             work(|| kept_ends = singles.iter().map(|single| kept_end(single)).collect()),
@@ -40,16 +57,12 @@ pub fn line(family: Family) {
     );
     assert_eq!(written, costs.len());
     assert_eq!(costs, kept_ends.concat());
-    let planning = plans.saturating_sub(checks);
-    println!(
-        "{CANDIDATES} candidates, {family:?}, {MOST_VERTICES} vertices: one call {:.1} ms, \
-         single plans {:.1} ms, checks {:.1} ms, plans less checks {:.1} ms, ratio {:.3}",
-        milliseconds(one_call),
-        milliseconds(plans),
-        milliseconds(checks),
-        milliseconds(planning),
-        ratio(one_call, planning),
-    );
+    let difference = plans.saturating_sub(checks);
+    print!("{:<12} {vertices:>8}", format!("{family:?}"));
+    for time in [one_call, plans, checks, difference] {
+        print!(" {:>12.4}", milliseconds(time));
+    }
+    println!(" {:>6.3}", ratio(one_call, difference));
 }
 
 /// The frame at the end of the kept text of a network's plan, which has its costs.

@@ -1,14 +1,13 @@
 //! Prints how long the linked services and the second program take for the same inputs.
 //!
-//! `cargo run --release --offline` prints two tables, two lines about candidates, three about reading and two about
-//! printing. The first table has the services that look at cuts: the core, the second program by the same method
-//! (`EveryFlow`: flows from one vertex to every other one) and by its faster one (`ContractedFlow`: one flow for a
-//! splitting). The second table has the audit of all edges, of half of them, which leave islands, and of none: both
-//! programs read the network and the list, and then make one depth-first search with low points, which is linear in the
-//! vertices and the listed edges.
+//! `cargo run --release --offline` prints three tables, three lines about reading and two about printing. The first
+//! table has the services that look at cuts: the core, the second program by the same method (`EveryFlow`: flows from
+//! one vertex to every other one) and by its faster one (`ContractedFlow`: one flow for a splitting). The second table
+//! has the audit of all edges, of half of them, which leave islands, and of none: both programs read the network and
+//! the list, and then make one depth-first search with low points, which is linear in the vertices and the listed edges.
 //!
-//! The lines about candidates have forty edges of a network of 256 vertices, each tried as the reserved one: the core's
-//! one call for all of them, and its forty single plans less forty checks of the network. A check reads the network and
+//! The third table has forty edges of a network, each tried as the reserved one: the core's one call for all of them,
+//! its forty single plans, forty checks of the network, and the plans less the checks. A check reads the network and
 //! looks at its degrees and cuts, which the one call has to do only once.
 //!
 //! The lines about reading have the longest texts: a network's columns, a network with its degrees, by a check that
@@ -18,7 +17,7 @@
 //! The lines about printing have the pages of all edges and of none of a network of 256 vertices. The second program
 //! prints by the standard library's format; beside it stands a printer that is written for speed (`single_page`).
 //!
-//! A ratio says how many times the other program's time the core takes; in the lines about candidates, how many times
+//! A ratio says how many times the other program's time the core takes; in the table about candidates, how many times
 //! what is left of the plans without the checks the one call takes. Each time is the shortest of some runs, in which
 //! the programs take turns, so that a busy moment of the machine doesn't fall on one of them alone; none is asserted.
 
@@ -59,9 +58,8 @@ fn main() {
     heading("audit of", &["bridge search"]);
     on_every_network(audits);
     println!();
-    for family in FAMILIES {
-        on_small_stack(|| candidates::line(family));
-    }
+    candidates::heading();
+    on_every_network(candidates::line);
     println!();
     on_small_stack(reading_a_network);
     on_small_stack(reading_a_network_and_degrees);
