@@ -11,9 +11,9 @@ use lib.Signed.{_≤ℤ_}
 use borrow.Author.Tests.{lt-ltb, le-ltb}
 use Rattle.base.specs.Answer.{Answer, refused, answer, andThen, over, replyOf, after}
 use Rattle.base.specs.Columns.{at}
-use Rattle.base.specs.Refusals.{RESERVED, SHORT}
+use Rattle.base.specs.Refusals.{RESERVED}
 use Rattle.base.specs.Words.{Words}
-use Rattle.base.specs.declared.reply.Reply.the-variants.{Refused, Done}
+use Rattle.base.specs.declared.reply.Reply.the-variants.{Done}
 use Rattle.base.proofs.Answers.{then-refused, then-answer, cond-answered, refuses, fits, short}
 use Rattle.base.proofs.Bools.{no-answer}
 use Rattle.base.proofs.Words.{below-at}

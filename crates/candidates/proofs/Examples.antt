@@ -1,6 +1,6 @@
 -- Candidates for document 01's printed network, computed.
 use mathlib.Core.Path.{_≡_, refl}
-use mathlib.Core.List.{List, [], _∷_}
+use mathlib.Core.List.{[], _∷_}
 use Rattle.base.specs.Answer.{refused}
 use Rattle.base.specs.Fold.{fold, pick, only, among, tabulate}
 use Rattle.base.specs.Refusals.{RESERVED}

@@ -2,11 +2,10 @@
 -- a meaning exactly where and as the reader refuses its text.
 -- Assumes nothing.
 use mathlib.Core.Path.{_≡_, refl, sym, _∙_, ap}
-use mathlib.Core.Bool.{Bool, true, false, cond}
 use mathlib.Core.List.{List, [], _∷_, _++_, map}
 use Prim.Native.Nat.{ℕ, zero, suc, _+_, _*_, _≤_, _<_}
 use native.Mathlib.Omega.{arith}
-use lib.Dec.{ltb, lit<}
+use lib.Dec.{lit<}
 use lib.ListN.{length, length-append, length-map}
 use lib.IntN.{ℤ}
 use borrow.Author.Tests.{le-leb, lt-ltb, eq-eqb}
@@ -23,10 +22,9 @@ use Rattle.frame.proofs.Named.{edge-found, head-back}
 use Rattle.frame.proofs.Runs.{run-left}
 use Rattle.digits.proofs.Signs.{unsigned-lt}
 use Rattle.base.specs.Limits.{fewestVertices, vertexLimit, edgeLimit, verticesOk}
-use Rattle.base.specs.Refusals.{VERTICES, RESERVED}
 use Rattle.network_frames.specs.Frames.{headRefusal, edgeRefusal}
 use Rattle.network_frames.proofs.Passed.{HeadPassed, EdgePassed, head-passed}
-use Rattle.network_text.specs.Text.{Meaning, meant, Edges, finished, interrupted, next, checked}
+use Rattle.network_text.specs.Text.{Meaning, Edges, finished, interrupted, next, checked}
 use Rattle.network_text.specs.Text.{meaningOf, inFrames, edgesOf, readNetwork, inColumns, edgesIn, edgesText}
 use Rattle.network_text.specs.Text.{networkText, writeNetwork, textOf, EdgeSpellable, AllSpellable, Spellable}
 use Rattle.network_text.proofs.CostField.{cost-spelt}

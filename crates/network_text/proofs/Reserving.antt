@@ -1,17 +1,17 @@
 -- A network text with another edge in the reserved field of its head: what it means, or that it is refused by 3.
 -- Assumes nothing.
-use mathlib.Core.Path.{_≡_, refl, sym, _∙_, ap}
-use mathlib.Core.List.{List, _++_}
+use mathlib.Core.Path.{_≡_, sym, _∙_, ap}
+use mathlib.Core.List.{List}
 use Prim.Native.Nat.{ℕ, _*_, _^_, _≤_, _<_}
 use native.Mathlib.Omega.{arith}
 use lib.Dec.{lit<}
 use lib.ListN.{drop}
 use borrow.Author.Tests.{le-leb, le-ltb}
-use Rattle.base.specs.Answer.{Answer, refused, answer, andThen, unless}
+use Rattle.base.specs.Answer.{refused, answer, andThen, unless}
 use Rattle.base.specs.Limits.{fewestVertices, vertexLimit, verticesOk}
 use Rattle.base.specs.Refusals.{RESERVED}
 use Rattle.frame.specs.Table.{HEAD, lineLength, bytesOf, padded, widths}
-use Rattle.frame.specs.Line.{fieldsOf, lineOf, Fits}
+use Rattle.frame.specs.Line.{fieldsOf, Fits}
 use Rattle.frame.specs.Kinds.{headOf, ofHead}
 use Rattle.frame.specs.declared.kinds.Head.{Head}
 use Rattle.frame.proofs.Lines.{line-is, line-rest, fields-found}
