@@ -9,9 +9,8 @@ use frame::COSTS;
 use frame::length_of;
 use graph::Network;
 use kept_text::put_costs;
-use loading::load;
 use rules::plan_steps;
-use thinning::accept;
+use thinning::accept_text;
 ghost use mathlib.Core.Path.{_≡_};
 ghost use lib.ListN.{length};
 ghost use Rattle.base.specs.Answer.{over, replyOf, after};
@@ -77,7 +76,7 @@ pub fn plan_candidates(network: &[u8], candidates: &[u16], costs: &mut [u8]) -> 
     ensures costs { λ r. ⌜ now (costs .exit) ≡
         after (candidatesText (now (network .entry)) (now (candidates .entry))) (now (costs .entry)) ⌝ }
 {
-    let accepted = accept(load(network));
+    let accepted = accept_text(network);
     let refusal = accepted.refusal;
     if 0 < refusal {
         return Reply::Refused(refusal);

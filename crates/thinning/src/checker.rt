@@ -1,11 +1,10 @@
 // The chain check.
 use super::chain::check_from;
 use super::kept::put_kept;
-use super::network::accept;
+use super::network::accept_text;
 use base::EDGE_LIMIT;
 use base::Reply;
 use graph::Kept;
-use loading::load;
 ghost use mathlib.Core.Path.{_≡_};
 ghost use Rattle.claim.specs.Services.{chainReply, keptAfter};
 
@@ -16,7 +15,7 @@ pub fn check_chain(network: &[u8], chain: &[u8], kept: &mut [u8]) -> Reply
     ensures kept { λ r. ⌜ now (kept .exit) ≡
         keptAfter (now (network .entry)) (now (chain .entry)) (now (kept .entry)) ⌝ }
 {
-    let accepted = accept(load(network));
+    let accepted = accept_text(network);
     let refusal = accepted.refusal;
     if 0 < refusal {
         return Reply::Refused(refusal);

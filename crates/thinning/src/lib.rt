@@ -6,7 +6,7 @@ mod network;
 mod planner;
 
 pub use checker::check_chain;
-pub use network::accept;
+pub use network::accept_text;
 pub use network::check_loaded;
 pub use network::check_network;
 pub use planner::plan;

@@ -47,6 +47,14 @@ pub fn accept(loaded: Loaded) -> Loaded
     loaded
 }
 
+// Reads and judges a network text: refusals 1 to 5 as the text meets them, then 6, then 7, with no network, or the
+// network.
+pub fn accept_text(text: &[u8]) -> Loaded
+    ensures { λ r. ⌜ r ≡ loadedOf (acceptNetwork (now (text .entry))) ⌝ }
+{
+    accept(load(text))
+}
+
 // Checks a network that was loaded, from whatever text: its own refusal, then 6, then 7, or accepted.
 pub fn check_loaded(loaded: Loaded) -> Acceptance
     requires { ⌜ Ready loaded ⌝ }

@@ -9,10 +9,9 @@ use borrow.Author.Tests.{not-true, not-false}
 use Rattle.base.specs.Answer.{answer}
 use Rattle.base.specs.declared.reply.Reply.the-variants.{Done}
 use Rattle.base.proofs.Answers.{refuses, short, fits}
-use Rattle.loading.specs.Loading.{loadedOf}
-use Rattle.loading.proofs.Reading.{loaded-zero, loaded-refused, load-ready}
+use Rattle.loading.proofs.Reading.{loaded-zero, loaded-refused}
 use Rattle.claim.specs.Services.{acceptNetwork}
-use Rattle.claim.proofs.Accepting.{accept-loaded, accept-numbered, accepted-whole}
+use Rattle.claim.proofs.Accepting.{accept-numbered, accepted-whole}
 use Rattle.candidates.specs.Services.{areEdges, candidatesCosts, candidatesText}
 use Rattle.candidates.proofs.Listing.{edges-below}
 use Rattle.candidates.proofs.Answering.{network-refused, list-refused, costs-answered, line-bytes}
@@ -21,15 +20,12 @@ use Rattle.candidates.proofs.plan_candidates.Statement.{statement}
 use Rattle.candidates.proofs.plan_candidates.Tie as tie
 
 -- the entry, seen from where the network is accepted, and the network
-abbrev entry : tie.After-accept → tie.Start
-entry c = c .before .before .before .before .before
-
-taken : (c : tie.After-accept) → c .accept .result ≡ loadedOf (acceptNetwork (entry c .args .network .now))
-taken c = c .accept .ensures ∙ ap loadedOf (accept-loaded _ (c .before .load .ensures))
+abbrev entry : tie.After-accept-text → tie.Start
+entry c = c .before .before .before .before
 
 accepted : (c : tie.Else1) → acceptNetwork (entry (c .before) .args .network .now)
-    ≡ answer (c .before .accept .result .network)
-accepted c = loaded-zero _ (accept-numbered _) (taken (c .before)) (c .if1 .left)
+    ≡ answer (c .before .accept-text .result .network)
+accepted c = loaded-zero _ (accept-numbered _) (c .before .accept-text .ensures) (c .if1 .left)
 
 -- where the network is known to be accepted, seen from where the buffer was measured
 abbrev known : tie.After-length-of → tie.Else1
@@ -39,11 +35,11 @@ known c = c .before .before .before
 abbrev due : tie.Else2 → List ℕ
 due c =
     let e = known (c .before) in
-    candidatesCosts (e .before .accept .result .network) (entry (e .before) .args .candidates .now)
+    candidatesCosts (e .before .accept-text .result .network) (entry (e .before) .args .candidates .now)
 
 all-edges : (c : tie.Else2) →
     let e = known (c .before) in
-    areEdges (e .before .accept .result .network .edges) (entry (e .before) .args .candidates .now) ≡ true
+    areEdges (e .before .accept-text .result .network .edges) (entry (e .before) .args .candidates .now) ≡ true
 all-edges c = sym (c .before .before .are-edges .ensures) ∙ not-false _ (c .if2 .left)
 
 answered : (c : tie.Else2) →
@@ -54,17 +50,14 @@ answered c =
     let a = entry (e .before) .args in
     costs-answered (a .network .now) (a .candidates .now) _ (accepted e) (all-edges c)
 
-load-requires : tie.Need-load-requires
-load-requires c κs = search needs
-
-accept-requires : tie.Need-accept-requires
-accept-requires c κs = load-ready _ (c .load .ensures)
+accept-text-requires : tie.Need-accept-text-requires
+accept-text-requires c κs = search needs
 
 returns : tie.Need-returns
 returns c =
     let q = c .before in
     let a = entry q .args in
-    let refused = loaded-refused _ (accept-numbered _) (taken q) (c .if1 .taken) in
+    let refused = loaded-refused _ (accept-numbered _) (q .accept-text .ensures) (c .if1 .taken) in
     refuses _ (a .costs .now) _ (network-refused (a .network .now) (a .candidates .now) _ refused)
 
 are-edges-requires : tie.Need-are-edges-requires
@@ -116,8 +109,7 @@ pub plan-candidates-spec : {M : Type 1} → statement M
 plan-candidates-spec =
     tie.close
     (tie.spec
-    load-requires
-    accept-requires
+    accept-text-requires
     returns
     are-edges-requires
     length-of-requires
