@@ -210,6 +210,14 @@ fn a_short_buffer_is_refused_last_and_left_alone() {
 }
 
 #[test]
+fn a_long_list_is_refused_before_anything_is_planned() {
+    let mut reserved = vec![0; 1_000_000];
+    assert_refused(NETWORK, &reserved, 0, Refusal::ShortBuffer);
+    reserved.push(EDGES);
+    assert_refused(NETWORK, &reserved, COSTS_TEXT, Refusal::Reserved);
+}
+
+#[test]
 fn a_longer_buffer_keeps_its_bytes_behind_the_frames() {
     let reserved = [4, 2];
     let due = frames(NETWORK, &reserved);

@@ -9,7 +9,7 @@ FORM = 1
 abbrev pub VERTICES : ℕ
 VERTICES = 2
 
--- the reserved edge is none of the network's
+-- the reserved edge, or a candidate for it, is none of the network's
 abbrev pub RESERVED : ℕ
 RESERVED = 3
 

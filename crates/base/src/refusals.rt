@@ -6,7 +6,7 @@ pub const FORM: u8 = 1;
 // How many vertices there are.
 pub const VERTICES: u8 = 2;
 
-// The reserved edge is none of the network's.
+// The reserved edge, or a candidate for it, is none of the network's.
 pub const RESERVED: u8 = 3;
 
 // An edge's number or its ends.
