@@ -1,10 +1,11 @@
 // The chain check.
 use super::chain::check_from;
 use super::kept::put_kept;
-use super::network::accept_text;
+use super::network::accept;
 use base::EDGE_LIMIT;
 use base::Reply;
 use graph::Kept;
+use loading::load;
 ghost use mathlib.Core.Path.{_≡_};
 ghost use Rattle.claim.specs.Services.{chainReply, keptAfter};
 
@@ -15,7 +16,7 @@ pub fn check_chain(network: &[u8], chain: &[u8], kept: &mut [u8]) -> Reply
     ensures kept { λ r. ⌜ now (kept .exit) ≡
         keptAfter (now (network .entry)) (now (chain .entry)) (now (kept .entry)) ⌝ }
 {
-    let accepted = accept_text(network);
+    let accepted = accept(load(network));
     let refusal = accepted.refusal;
     if 0 < refusal {
         return Reply::Refused(refusal);

@@ -4,47 +4,54 @@ use Prim.Native.Nat.{_-_}
 use borrow.Author.Needs.{needs}
 use Rattle.base.specs.Answer.{answer, replyOf, after}
 use Rattle.base.proofs.Answers.{refuses}
-use Rattle.loading.proofs.Reading.{loaded-zero, loaded-refused}
+use Rattle.loading.specs.Loading.{loadedOf}
+use Rattle.loading.proofs.Reading.{loaded-zero, loaded-refused, load-ready}
 use Rattle.graph.specs.State.{noMarks}
 use Rattle.claim.specs.Verdicts.{checkChain}
 use Rattle.claim.specs.Services.{acceptNetwork, keptIn}
 use Rattle.claim.proofs.Chains.{was-refused, was-kept}
 use Rattle.claim.proofs.Meets.{chain-numbered}
-use Rattle.claim.proofs.Accepting.{accept-numbered, accepted-running, passing-keeping}
+use Rattle.claim.proofs.Accepting.{accept-loaded, accept-numbered, accepted-running, passing-keeping}
 use Rattle.claim.proofs.Accepting.{chain-network-refused, chain-refused, chain-kept}
 use Rattle.thinning.proofs.checker.check_chain.Statement.{statement}
 use Rattle.thinning.proofs.checker.check_chain.Tie as tie
 
 -- the entry, seen from where the network is accepted, and the network
-abbrev entry : tie.After-accept-text → tie.Start
-entry c = c .before .before .before .before
+abbrev entry : tie.After-accept → tie.Start
+entry c = c .before .before .before .before .before
+
+taken : (c : tie.After-accept) → c .accept .result ≡ loadedOf (acceptNetwork (entry c .args .network .now))
+taken c = c .accept .ensures ∙ ap loadedOf (accept-loaded _ (c .before .load .ensures))
 
 accepted : (c : tie.Else1) → acceptNetwork (entry (c .before) .args .network .now)
-    ≡ answer (c .before .accept-text .result .network)
-accepted c = loaded-zero _ (accept-numbered _) (c .before .accept-text .ensures) (c .if1 .left)
+    ≡ answer (c .before .accept .result .network)
+accepted c = loaded-zero _ (accept-numbered _) (taken (c .before)) (c .if1 .left)
 
 -- where the network is known to be accepted, seen from where the chain was checked
 abbrev known : tie.After-check-from → tie.Else1
 known c = c .before .before .before
 
 -- what a chain that is not refused keeps
-passed : (c : tie.Else2) → let f = c .before in let g = known f .before .accept-text .result .network in
+passed : (c : tie.Else2) → let f = c .before in let g = known f .before .accept .result .network in
     checkChain (g .remaining - 2) g (entry (known f .before) .args .chain .now)
     ≡ answer (f .check-from .last .1 .1 .1 .0)
 passed c =
     let f = c .before in
-    let g = known f .before .accept-text .result .network in
+    let g = known f .before .accept .result .network in
     was-kept _ (chain-numbered (g .remaining - 2) g _) (f .check-from .ensures .0) (c .if2 .left) noMarks
     (f .check-from .ensures .1)
 
-accept-text-requires : tie.Need-accept-text-requires
-accept-text-requires c κs = search needs
+load-requires : tie.Need-load-requires
+load-requires c κs = search needs
+
+accept-requires : tie.Need-accept-requires
+accept-requires c κs = load-ready _ (c .load .ensures)
 
 returns : tie.Need-returns
 returns c =
     let q = c .before in
     let a = entry q .args in
-    let refused = loaded-refused _ (accept-numbered _) (q .accept-text .ensures) (c .if1 .taken) in
+    let refused = loaded-refused _ (accept-numbered _) (taken q) (c .if1 .taken) in
     refuses _ (a .kept .now) _ (chain-network-refused (a .network .now) (a .chain .now) _ refused)
 
 check-from-requires : tie.Need-check-from-requires
@@ -85,7 +92,8 @@ pub check-chain-spec : {M : Type 1} → statement M
 check-chain-spec =
     tie.close
     (tie.spec
-    accept-text-requires
+    load-requires
+    accept-requires
     returns
     check-from-requires
     returns-2
