@@ -1,15 +1,12 @@
 //! A table about candidates for the reserved edge: one call for forty of them, and forty single plans.
 
 use second::generate::{self, Rng};
-use second::texts::MOST_VERTICES;
 use thinning::{raw, COSTS_TEXT};
 
 use crate::{milliseconds, network, ratio, shortest, work, Given, RUNS, SEED};
 
 /// How many edges are tried.
 const CANDIDATES: usize = 40;
-/// A run at the most vertices has forty plans twice, which take seconds.
-const LONG_RUNS: usize = 5;
 
 /// The line above the table.
 pub fn heading() {
@@ -42,13 +39,8 @@ pub fn line(given: &Given) {
     let mut costs = vec![0; CANDIDATES * COSTS_TEXT];
     let mut written = 0;
     let mut kept_ends = Vec::new();
-    let runs = if *vertices < MOST_VERTICES {
-        RUNS
-    } else {
-        LONG_RUNS
-    };
     let [one_call, plans, checks] = shortest(
-        runs,
+        RUNS,
         [
             work(|| raw::plan_candidates(text, &candidates, &mut costs, &mut written)),
             work(|| kept_ends = singles.iter().map(|single| kept_end(single)).collect()),

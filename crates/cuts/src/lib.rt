@@ -9,6 +9,7 @@ ghost use Rattle.cuts.specs.Partnered.{Partnered};
 ghost use Rattle.cuts.specs.Anchor.{FirstOf};
 use flow::Pair;
 use flow::four_paths;
+use flow::gather;
 use flow::lay;
 use flow::wire;
 use graph::Network;
@@ -28,22 +29,24 @@ fn first_present(present: &[bool], vertices: usize) -> usize
     vertex
 }
 
-// Whether every cut is crossed by at least four edges: whether the
-// first present vertex is four apart from every other one.
+// Whether every cut is crossed by at least four edges: the lowest vertex in a part without the first
+// present vertex has every earlier one outside. So each vertex is tested against all earlier ones at
+// once, which are gathered at the first.
 pub fn every_cut_four(network: Network) -> bool
     requires { ⌜ Formed network ⌝ }
     ensures { λ r. ⌜ r ≡ everyCut 4 network ⌝ }
 {
     let present = network.present;
     let vertices = network.vertices;
-    let ends = lay(network);
+    let edges = network.edges;
+    let mut ends = lay(network);
     let ports = wire(&ends);
     let anchor = first_present(&present, vertices);
     let mut vertex = anchor + 1;
     while vertex < vertices {
         if present[vertex] {
-            let source = anchor as u8;
-            let sink = vertex as u8;
+            let source = vertex as u8;
+            let sink = anchor as u8;
             let four = four_paths(
                 &ends,
                 &ports,
@@ -59,6 +62,7 @@ pub fn every_cut_four(network: Network) -> bool
             if !four {
                 return false;
             }
+            gather(&mut ends, edges, source, sink);
         }
         vertex += 1;
     }

@@ -2,3 +2,4 @@ pub mod Laying
 pub mod Reaching
 pub mod Pushing
 pub mod Rounds
+pub mod Gathering

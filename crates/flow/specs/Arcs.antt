@@ -1,10 +1,11 @@
 -- The arcs of a network and what they can still carry. Edge e has two arcs: arc e from
 -- its low end to its high end, and arc e + edgeLimit back. A list `ends` has the vertex
 -- where each arc starts, and a list `residual` what each can still carry.
-use mathlib.Core.Bool.{Bool, true, false}
+use mathlib.Core.Bool.{Bool, true, false, cond}
 use mathlib.Core.List.{List}
 use mathlib.Core.Path.{_≡_}
 use Prim.Native.Nat.{ℕ, _+_, _*_, _%_, _≤_, _<_}
+use lib.Dec.{eqb}
 use lib.ListN.{length}
 use Rattle.base.specs.Columns.{at}
 use Rattle.base.specs.Fold.{sum}
@@ -57,3 +58,15 @@ capacity ends residual S = sum arcLimit (λ p. carried ends S p (at residual p))
 pub record Balanced (residual : List ℕ) : Type 0 where
   pub long : length residual ≡ arcLimit
   pub paired : (p : ℕ) → p < arcLimit → at residual p + at residual (reverse p) ≡ 2
+
+-- vertex u once what is at one vertex is moved to another
+unfoldable pub moved : ℕ → ℕ → ℕ → ℕ
+moved from to u = cond (eqb u from) to u
+
+-- the ends of the first edges are moved so, and the others are as they were
+pub record MovedTo (from to count : ℕ) (ends₀ ends : List ℕ) : Type 0 where
+  pub size : length ends ≡ length ends₀
+  pub low : (e : ℕ) → e < count → at ends e ≡ moved from to (at ends₀ e)
+  pub high : (e : ℕ) → e < count → at ends (e + edgeLimit) ≡ moved from to (at ends₀ (e + edgeLimit))
+  pub low-left : (e : ℕ) → count ≤ e → e < edgeLimit → at ends e ≡ at ends₀ e
+  pub high-left : (e : ℕ) → count ≤ e → e < edgeLimit → at ends (e + edgeLimit) ≡ at ends₀ (e + edgeLimit)

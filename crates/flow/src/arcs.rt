@@ -1,10 +1,10 @@
 // The arcs of a network: where each starts, and which start at a vertex.
 ghost use lib.ListN.{length};
 ghost use mathlib.Core.Path.{_≡_};
-ghost use Prim.Native.Nat.{_<_};
-ghost use Rattle.base.specs.Limits.{vertexLimit};
+ghost use Prim.Native.Nat.{_≤_, _<_};
+ghost use Rattle.base.specs.Limits.{vertexLimit, edgeLimit};
 ghost use Rattle.graph.specs.Sound.{Formed};
-ghost use Rattle.flow.specs.Arcs.{arcLimit, Laid};
+ghost use Rattle.flow.specs.Arcs.{arcLimit, Laid, moved, MovedTo};
 ghost use Rattle.flow.specs.Ports.{wiring, plugged, wired};
 use base::EDGE_LIMIT;
 use base::VERTEX_LIMIT;
@@ -65,4 +65,24 @@ pub fn wire(ends: &[u8]) -> [u16; ARC_LIMIT]
         arc += 1;
     }
     ports
+}
+
+// A vertex, once what is at one vertex is moved to another.
+fn moved_from(vertex: u8, from: u8, to: u8) -> u8
+    ensures { λ r. ⌜ r ≡ moved from to vertex ⌝ }
+{
+    if vertex == from { to } else { vertex }
+}
+
+// Moves the ends of the first edges that are at one vertex to another.
+pub fn gather(ends: &mut [u8], edges: usize, from: u8, to: u8)
+    requires { ⌜ (length (now ends) ≡ arcLimit) × (edges ≤ edgeLimit) ⌝ }
+    ensures { λ _. ⌜ MovedTo from to edges (now (ends .entry)) (now (ends .exit)) ⌝ }
+{
+    let mut edge = 0;
+    while edge < edges {
+        ends[edge] = moved_from(ends[edge], from, to);
+        ends[edge + EDGE_LIMIT] = moved_from(ends[edge + EDGE_LIMIT], from, to);
+        edge += 1;
+    }
 }

@@ -10,6 +10,7 @@ mod arcs; // arcs.rt: the arcs of a network
 mod paths; // paths.rt: sending units from sources to sinks
 mod search; // search.rt: searching along arcs that can still carry something
 
+pub use arcs::gather;
 pub use arcs::lay;
 pub use arcs::wire;
 pub use paths::four_paths;

@@ -8,11 +8,11 @@ ghost use Prim.Native.Nat.{_≤_};
 
 // Says what is planned, and writes the costs of each candidate's plan into so many bytes, or the refusal.
 fn costs_of(what: &[u8], text: &[u8], reserved: &[u16], room: usize)
-    requires { ⌜ room ≤ 210 ⌝ }
+    requires { ⌜ room ≤ 140 ⌝ }
 {
     say(what);
     say(b": ");
-    let mut costs = [0u8; 210];
+    let mut costs = [0u8; 140];
     match plan_candidates(text, reserved, &mut costs[..room]) {
         Reply::Done(length) => {
             say(b"planned\n");
@@ -24,25 +24,27 @@ fn costs_of(what: &[u8], text: &[u8], reserved: &[u16], room: usize)
     }
 }
 
-// Lists over T, and buffers with just enough room for them or a byte less.
+// A list over T, and a buffer with just enough room for it or a byte less.
 fn lists(text: &[u8]) {
-    let all = [0u16, 1, 2, 3, 4, 5];
-    costs_of(b"every cable of T reserved", text, &all, 210);
-    costs_of(b"in 209 bytes", text, &all, 209);
-    let repeated = [5u16, 0, 5];
-    costs_of(b"cables 5, 0, 5 reserved", text, &repeated, 105);
-    costs_of(b"in 104 bytes", text, &repeated, 104);
-    costs_of(b"no cable of T reserved, in no room", text, &all[..0], 0);
+    let repeated = [5u16, 0, 5, 2];
+    costs_of(b"cables 5, 0, 5, 2 reserved", text, &repeated, 140);
+    costs_of(b"in 139 bytes", text, &repeated, 139);
+    costs_of(
+        b"no cable of T reserved, in no room",
+        text,
+        &repeated[..0],
+        0,
+    );
 }
 
 // A number that is no cable, first, in the middle, last and alone, also where there is no room.
 fn bad_lists(text: &[u8]) {
     let first = [6u16, 0, 5];
-    costs_of(b"cables 6, 0, 5 reserved", text, &first, 210);
+    costs_of(b"cables 6, 0, 5 reserved", text, &first, 140);
     let middle = [0u16, 6, 5];
-    costs_of(b"cables 0, 6, 5 reserved", text, &middle, 210);
+    costs_of(b"cables 0, 6, 5 reserved", text, &middle, 140);
     let last = [0u16, 5, 6];
-    costs_of(b"cables 0, 5, 6 reserved", text, &last, 210);
+    costs_of(b"cables 0, 5, 6 reserved", text, &last, 140);
     costs_of(b"the same in no room", text, &last, 0);
     let highest = [65_535u16];
     costs_of(b"cable 65,535 reserved", text, &highest, 35);

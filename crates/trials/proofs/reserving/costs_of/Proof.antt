@@ -28,7 +28,7 @@ array-borrow-prefix-costs c = search needs
 
 slice-aggregate-plan-candidates : tie.Need-slice-aggregate-plan-candidates
 slice-aggregate-plan-candidates c =
-    sym (length-take-le _ (replicate 210 0) (omega (arith, length-replicate {A = ℕ} 210 0)))
+    sym (length-take-le _ (replicate 140 0) (omega (arith, length-replicate {A = ℕ} 140 0)))
 
 plan-candidates-requires : tie.Need-plan-candidates-requires
 plan-candidates-requires c κs = search needs
