@@ -8,6 +8,7 @@ ghost use Rattle.graph.specs.Split.{admissible};
 ghost use Rattle.cuts.specs.Partnered.{Partnered};
 ghost use Rattle.cuts.specs.Anchor.{FirstOf};
 use flow::Pair;
+use flow::four_apart;
 use flow::four_paths;
 use flow::gather;
 use flow::lay;
@@ -69,11 +70,21 @@ pub fn every_cut_four(network: Network) -> bool
     true
 }
 
-// Whether partner x at v, an end of the reserved edge, is admissible; y and z are the other
-// two partners, in rising order. It tests every cut of the network after that split.
+// Whether partner x at v, an end of the reserved edge, is admissible; y and z are the other two partners, in rising
+// order. After that split, by Lemma 9, only cuts between the ends of the reserved edge and those of z need be tested.
 pub fn admissible(network: Network, v: u8, x: usize, y: usize, z: usize) -> bool
     requires { ⌜ Partnered network v x y z ⌝ }
     ensures { λ r. ⌜ r ≡ admissible network v x ⌝ }
 {
-    every_cut_four(network.split(v, x, y, z))
+    let reserved = network.reserved;
+    let after = network.split(v, x, y, z);
+    let sources = Pair {
+        first: after.low[reserved],
+        second: after.high[reserved],
+    };
+    let sinks = Pair {
+        first: after.low[z],
+        second: after.high[z],
+    };
+    four_apart(after, sources, sinks)
 }

@@ -1,13 +1,11 @@
 -- The arcs that are laid for a network carry out of a side as much as edges cross it.
 use mathlib.Core.Path.{_≡_, refl, sym, _∙_, ap, ap₂}
-use mathlib.Core.Logic.{_≢_}
 use mathlib.Core.Bool.{Bool, true, false}
 use mathlib.Core.List.{List}
 use Prim.Native.Nat.{ℕ, _+_, _-_, _<_}
 use native.Mathlib.Omega.{arith}
 use borrow.Author.Count.{below-more}
-use lib.ListN.{length, set, replicate, length-set, length-replicate, getD-replicate}
-use lib.Seq.{getD-set-same, getD-set-other}
+use lib.ListN.{replicate, length-replicate, getD-replicate}
 use Rattle.base.specs.Fold.{sum}
 use Rattle.graph.specs.Network.{lowEnd, highEnd}
 use Rattle.graph.specs.Cut.{Side, differ, crosses, crossingsOf, crossings}
@@ -17,6 +15,7 @@ use Rattle.graph.proofs.Stars.{differ-same}
 use Rattle.base.proofs.Sums.{sum-ext, sum-add, sum-zeros, sum-join}
 use Rattle.base.specs.Columns.{at}
 use Rattle.flow.specs.Arcs.{arcLimit, reverse, LaidTo, Laid, leaving, carried, capacity, Balanced}
+use Rattle.flow.proofs.Storing.{stored, length-stored, low-stored, high-stored, same-low, same-high}
 
 -- the edges are laid one by one
 pub laid-none : (g : Network) → LaidTo g 0 (replicate arcLimit 0)
@@ -31,42 +30,20 @@ laid-none g = record {
 
 module _ {g : Network} {edge : ℕ} {ends : List ℕ} (l : LaidTo g edge ends) (h : edge < edgeLimit) where
   longer : List ℕ
-  longer = set (set ends edge (lowEnd g edge)) (edge + edgeLimit) (highEnd g edge)
+  longer = stored ends edge (lowEnd g edge) (highEnd g edge)
 
-  at-low : at longer edge ≡ lowEnd g edge
-  unfolding longer
-  at-low =
-      let ne : edge ≢ edge + edgeLimit = λ e. omega arith in
-      let fits : edge < length ends = omega (arith, l .long) in
-      rw (getD-set-other, getD-set-same)
-
-  at-high : at longer (edge + edgeLimit) ≡ highEnd g edge
-  unfolding longer
-  at-high = getD-set-same (set ends edge (lowEnd g edge)) (edge + edgeLimit) (highEnd g edge) 0
-      (rw length-set (omega (arith, l .long)))
-
-  at-other : (p : ℕ) → p ≢ edge → p ≢ edge + edgeLimit → at longer p ≡ at ends p
-  unfolding longer
-  at-other p nl nh = simp getD-set-other
-
-  same-low : (e : ℕ) → e ≢ edge → e < edgeLimit → at longer e ≡ at ends e
-  same-low e ne k = at-other e ne (λ q. omega arith)
-
-  same-high : (e : ℕ) → e ≢ edge → e < edgeLimit → at longer (e + edgeLimit) ≡ at ends (e + edgeLimit)
-  same-high e ne k = at-other (e + edgeLimit) (λ q. omega arith) (λ q. ne (omega arith))
-
-  pub laid-on : LaidTo g (edge + 1) (set (set ends edge (lowEnd g edge)) (edge + edgeLimit) (highEnd g edge))
+  pub laid-on : LaidTo g (edge + 1) (stored ends edge (lowEnd g edge) (highEnd g edge))
   unfolding longer
   laid-on = record {
-    long = simp length-set (l .long);
+    long = length-stored ends edge _ _ ∙ l .long;
     room = omega arith;
     low = below-more (λ e. at longer e ≡ lowEnd g e) edge
-        (λ e k. same-low e (λ q. omega arith) (omega arith) ∙ l .low e k) at-low;
+        (λ e k. same-low ends h _ _ e (λ q. omega arith) (omega arith) ∙ l .low e k) (low-stored ends h _ _ (l .long));
     high =
         below-more (λ e. at longer (e + edgeLimit) ≡ highEnd g e) edge
-        (λ e k. same-high e (λ q. omega arith) (omega arith) ∙ l .high e k) at-high;
-    spare = λ e le k. same-low e (λ q. omega arith) k ∙ l .spare e (omega arith) k
-        ∙ sym (same-high e (λ q. omega arith) k);
+        (λ e k. same-high ends h _ _ e (λ q. omega arith) (omega arith) ∙ l .high e k) (high-stored ends h _ _ (l .long));
+    spare = λ e le k. same-low ends h _ _ e (λ q. omega arith) k ∙ l .spare e (omega arith) k
+        ∙ sym (same-high ends h _ _ e (λ q. omega arith) k);
   }
 
 -- every arc can carry one unit

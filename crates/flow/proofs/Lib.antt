@@ -1,3 +1,4 @@
+pub mod Storing
 pub mod Laying
 pub mod Reaching
 pub mod Pushing

@@ -1,28 +1,41 @@
--- `cuts::admissible` meets its contract: it tests the split network.
-use mathlib.Core.Path.{_≡_, sym, _∙_, ap}
-use native.Mathlib.Omega.{arith}
+-- `cuts::admissible` meets its contract: Lemma 9 spares all other cuts of the split network.
 use borrow.Author.Needs.{needs}
-use lib.ListN.{length}
-use Rattle.graph.specs.Cut.{everyCut}
-use Rattle.graph.specs.Split.{admissible}
-use Rattle.base.specs.Limits.{edgeLimit}
-use Rattle.graph.proofs.Splitting.{split-with}
-use Rattle.cuts.proofs.Partnering.{splittable, split-formed}
+use Rattle.cuts.proofs.Partnering.{splittable, reserved-within, z-within, split-formed, by-pairs}
 use Rattle.cuts.proofs.admissible.Statement.{statement}
 use Rattle.cuts.proofs.admissible.Tie as tie
 
 split-requires : tie.Need-split-requires
-split-requires c κs =
-    let long : length (c .args .network .low) ≡ edgeLimit = search needs in
-    splittable (c .pre) (omega (arith, c .pre .sound .formed .low-room))
+split-requires c κs = splittable (c .pre) (search needs)
 
-every-cut-four-requires : tie.Need-every-cut-four-requires
-every-cut-four-requires c κs = rw (c .split .ensures) (split-formed (c .before .pre))
+element-copy-out-t13 : tie.Need-element-copy-out-t13
+element-copy-out-t13 c = reserved-within (c .before .pre) (search needs)
+
+element-copy-out-t16 : tie.Need-element-copy-out-t16
+element-copy-out-t16 c = reserved-within (c .before .before .pre) (search needs)
+
+element-copy-out-t13-2 : tie.Need-element-copy-out-t13-2
+element-copy-out-t13-2 c = z-within (c .before .before .before .pre) (search needs)
+
+element-copy-out-t16-2 : tie.Need-element-copy-out-t16-2
+element-copy-out-t16-2 c = z-within (c .before .before .before .before .pre) (search needs)
+
+four-apart-requires : tie.Need-four-apart-requires
+four-apart-requires c κs =
+    let split = c .before .before .before .before in rw (split .split .ensures) (split-formed (split .before .pre))
 
 returns : tie.Need-returns
-unfolding admissible
-returns c = c .every-cut-four .ensures
-    ∙ ap (everyCut 4) (c .before .split .ensures ∙ sym (split-with _ _ _ (c .before .before .pre .others)))
+returns c =
+    let split = c .before .before .before .before .before in
+    by-pairs (split .before .pre) (rw (split .split .ensures) at (c .four-apart .ensures))
 
 pub admissible-spec : {M : Type 1} → statement M
-admissible-spec = tie.close (tie.spec split-requires every-cut-four-requires returns)
+admissible-spec =
+    tie.close
+    (tie.spec
+    split-requires
+    element-copy-out-t13
+    element-copy-out-t16
+    element-copy-out-t13-2
+    element-copy-out-t16-2
+    four-apart-requires
+    returns)
