@@ -59,11 +59,9 @@ module _ {g : Network} {v x y z : ℕ} (p : Partnered g v x y z) where
       light = p .light;
     }
 
-    pub reserved-within : g .reserved < edgeLimit
-    reserved-within = omega (arith, splittable .reserved-edge, splittable .room)
-
-    pub z-within : z < edgeLimit
-    z-within = omega (arith, splittable .z-edge, splittable .room)
+    pub edges-within : (g .reserved < edgeLimit) × (z < edgeLimit)
+    edges-within =
+        let s = splittable in (omega (arith, s .reserved-edge, s .room), omega (arith, s .z-edge, s .room))
 
   pub split-formed : Formed (split g v x y z)
   split-formed = formed-after (p .sound .formed) star (end-here (p .sound) v (p .at-end))

@@ -39,9 +39,9 @@ module _ {g : Network} {edge : ℕ} {ends : List ℕ} (l : LaidTo g edge ends) (
     room = omega arith;
     low = below-more (λ e. at longer e ≡ lowEnd g e) edge
         (λ e k. same-low ends h _ _ e (λ q. omega arith) (omega arith) ∙ l .low e k) (low-stored ends h _ _ (l .long));
-    high =
-        below-more (λ e. at longer (e + edgeLimit) ≡ highEnd g e) edge
-        (λ e k. same-high ends h _ _ e (λ q. omega arith) (omega arith) ∙ l .high e k) (high-stored ends h _ _ (l .long));
+    high = below-more (λ e. at longer (e + edgeLimit) ≡ highEnd g e) edge
+        (λ e k. same-high ends h _ _ e (λ q. omega arith) (omega arith) ∙ l .high e k)
+        (high-stored ends h _ _ (l .long));
     spare = λ e le k. same-low ends h _ _ e (λ q. omega arith) k ∙ l .spare e (omega arith) k
         ∙ sym (same-high ends h _ _ e (λ q. omega arith) k);
   }

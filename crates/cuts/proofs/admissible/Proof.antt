@@ -1,6 +1,7 @@
 -- `cuts::admissible` meets its contract: Lemma 9 spares all other cuts of the split network.
+use native.Mathlib.Omega.{arith}
 use borrow.Author.Needs.{needs}
-use Rattle.cuts.proofs.Partnering.{splittable, reserved-within, z-within, split-formed, by-pairs}
+use Rattle.cuts.proofs.Partnering.{splittable, edges-within, split-formed, by-pairs}
 use Rattle.cuts.proofs.admissible.Statement.{statement}
 use Rattle.cuts.proofs.admissible.Tie as tie
 
@@ -8,16 +9,20 @@ split-requires : tie.Need-split-requires
 split-requires c κs = splittable (c .pre) (search needs)
 
 element-copy-out-t13 : tie.Need-element-copy-out-t13
-element-copy-out-t13 c = reserved-within (c .before .pre) (search needs)
+element-copy-out-t13 c =
+    let w = edges-within (c .before .pre) (search needs) in omega (arith, w .0, w .1)
 
 element-copy-out-t16 : tie.Need-element-copy-out-t16
-element-copy-out-t16 c = reserved-within (c .before .before .pre) (search needs)
+element-copy-out-t16 c =
+    let w = edges-within (c .before .before .pre) (search needs) in omega (arith, w .0, w .1)
 
 element-copy-out-t13-2 : tie.Need-element-copy-out-t13-2
-element-copy-out-t13-2 c = z-within (c .before .before .before .pre) (search needs)
+element-copy-out-t13-2 c =
+    let w = edges-within (c .before .before .before .pre) (search needs) in omega (arith, w .0, w .1)
 
 element-copy-out-t16-2 : tie.Need-element-copy-out-t16-2
-element-copy-out-t16-2 c = z-within (c .before .before .before .before .pre) (search needs)
+element-copy-out-t16-2 c =
+    let w = edges-within (c .before .before .before .before .pre) (search needs) in omega (arith, w .0, w .1)
 
 four-apart-requires : tie.Need-four-apart-requires
 four-apart-requires c κs =
