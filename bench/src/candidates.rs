@@ -1,12 +1,15 @@
 //! A table about candidates for the reserved edge: one call for forty of them, and forty single plans.
 
 use second::generate::{self, Rng};
-use thinning::{raw, COSTS_TEXT};
+use thinning::{raw, CHAIN_TEXT, COSTS_TEXT, KEPT_TEXT};
 
-use crate::{milliseconds, network, ratio, shortest, work, Given, RUNS, SEED};
+use crate::{milliseconds, network, ratio, shortest, work, Given, SEED};
 
 /// How many edges are tried.
 const CANDIDATES: usize = 40;
+/// The times that are compared differ by a few hundredths and are long, so it takes many runs until each of them meets
+/// an undisturbed moment.
+const RUNS: usize = 60;
 
 /// The line above the table.
 pub fn heading() {
@@ -36,19 +39,18 @@ pub fn line(given: &Given) {
         })
         .collect();
 
-    let mut costs = vec![0; CANDIDATES * COSTS_TEXT];
+    let [mut costs, mut single_costs] = [(); 2].map(|()| vec![0; CANDIDATES * COSTS_TEXT]);
     let mut written = 0;
-    let mut kept_ends = Vec::new();
     let [one_call, plans, checks] = shortest(
         RUNS,
         [
             work(|| raw::plan_candidates(text, &candidates, &mut costs, &mut written)),
-            work(|| kept_ends = singles.iter().map(|single| kept_end(single)).collect()),
+            work(|| single_plans(&singles, &mut single_costs)),
             work(|| singles.iter().all(|single| raw::check_network(single) == 0)),
         ],
     );
     assert_eq!(written, costs.len());
-    assert_eq!(costs, kept_ends.concat());
+    assert_eq!(costs, single_costs);
     let difference = plans.saturating_sub(checks);
     print!("{:<12} {vertices:>8}", format!("{family:?}"));
     for time in [one_call, plans, checks, difference] {
@@ -57,8 +59,19 @@ pub fn line(given: &Given) {
     println!(" {:>6.3}", ratio(one_call, difference));
 }
 
-/// The frame at the end of the kept text of a network's plan, which has its costs.
-fn kept_end(network: &[u8]) -> Vec<u8> {
-    let mut kept = thinning::plan(network).expect("it is accepted").kept;
-    kept.split_off(kept.len() - COSTS_TEXT)
+/// Plans each network and copies the frame at the end of its kept text, which has the costs of its plan.
+fn single_plans(networks: &[Vec<u8>], costs: &mut [u8]) {
+    let (mut chain, mut kept) = (vec![0; CHAIN_TEXT], vec![0; KEPT_TEXT]);
+    let (mut chain_written, mut written) = (0, 0);
+    for (network, frame) in networks.iter().zip(costs.chunks_mut(COSTS_TEXT)) {
+        let refusal = raw::plan(
+            network,
+            &mut chain,
+            &mut kept,
+            &mut chain_written,
+            &mut written,
+        );
+        assert_eq!(refusal, 0);
+        frame.copy_from_slice(&kept[written - COSTS_TEXT..written]);
+    }
 }

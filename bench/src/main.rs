@@ -1,11 +1,11 @@
 //! Prints how long the linked services and the second program take for the same inputs.
 //!
 //! `cargo run --release --offline` prints three tables, three lines about reading and two about printing. The first
-//! table has the services that look at cuts: the core, which tests each vertex against all earlier ones at once, the
-//! second program by flows from one vertex to every other one (`EveryFlow`), and by one flow for a splitting
-//! (`ContractedFlow`). The second table has the audit of all edges, of half of them, which leave islands, and of none:
-//! both programs read the network and the list, and then make one depth-first search with low points, which is linear
-//! in the vertices and the listed edges.
+//! table has the services that look at cuts: the core, which takes one flow for a splitting and in a network one from
+//! each vertex to all earlier ones at once, and the second program by flows from one vertex to every other one
+//! (`EveryFlow`), or so in a network and by one flow for a splitting (`ContractedFlow`). The second table has the audit
+//! of all edges, of half of them, which leave islands, and of none: both programs read the network and the list, and
+//! then make one depth-first search with low points, which is linear in the vertices and the listed edges.
 //!
 //! The third table has forty edges of a network, each tried as the reserved one: the core's one call for all of them,
 //! its forty single plans, forty checks of the network, and the plans less the checks. A check reads the network and

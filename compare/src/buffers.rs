@@ -222,6 +222,33 @@ pub fn compare(
     ))
 }
 
+/// Compares a service that writes one text into a buffer of this length, where this text or this
+/// refusal is due, and gives what it has written, if it answered.
+pub fn one_text(
+    service: &'static str,
+    rng: &mut Rng,
+    given: &Given,
+    due: &Result<Vec<u8>, Refusal>,
+    length: usize,
+    write: impl FnOnce(&mut [u8], &mut usize) -> u32,
+) -> Result<Option<Vec<u8>>, Difference> {
+    let mut text = Lent::new(rng, length);
+    let mut written = Number::new(rng);
+    let answer = write(text.buffer(), written.place());
+    let text_due = due.as_deref().unwrap_or_default();
+    compare(
+        service,
+        answer,
+        due.as_ref().err().copied(),
+        given,
+        &[
+            &("text", &text, text_due),
+            &("written", &written, text_due.len()),
+        ],
+    )?;
+    Ok((answer == 0).then(|| text.buffer()[..text_due.len()].to_vec()))
+}
+
 /// Lengths to lend buffers with to which so much is due: exact, one short, ample, empty.
 ///
 /// All four for every buffer, among others that are long enough, and a mixture; only the

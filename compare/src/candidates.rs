@@ -10,7 +10,7 @@ use second::texts::FEWEST_VERTICES;
 use second::{Network, Refusal};
 use thinning::raw;
 
-use crate::buffers::{compare, Lent, Number};
+use crate::buffers::one_text;
 use crate::costs::some_vertices;
 use crate::difference::{Compared, Difference, Given, Text, Words};
 use crate::networks::MANY_VERTICES;
@@ -203,24 +203,11 @@ pub fn plan_into(
     due: &Result<Vec<u8>, Refusal>,
     length: usize,
 ) -> Compared {
-    let mut costs = Lent::new(rng, length);
-    let mut written = Number::new(rng);
-    let answer = raw::plan_candidates(network, reserved, costs.buffer(), written.place());
-    let costs_due = due.as_deref().unwrap_or_default();
-    compare(
-        SERVICE,
-        answer,
-        due.as_ref().err().copied(),
-        &[("network", &Text(network)), ("reserved", &reserved)],
-        &[
-            &("costs", &costs, costs_due),
-            &("written", &written, costs_due.len()),
-        ],
-    )?;
-    if answer != 0 {
-        return Ok(());
-    }
-    judge(network, reserved, &costs.buffer()[..costs_due.len()])
+    let given: &Given = &[("network", &Text(network)), ("reserved", &reserved)];
+    let frames = one_text(SERVICE, rng, given, due, length, |costs, written| {
+        raw::plan_candidates(network, reserved, costs, written)
+    })?;
+    frames.map_or(Ok(()), |frames| judge(network, reserved, &frames))
 }
 
 /// What is promised of the frames of every list, judged without a plan.

@@ -4,7 +4,7 @@ use second::generate::{self, aimed_chain, chain_by_rule, changed_chain, Aim, Aim
 use second::{columns, Chain, Network, Refusal, Step};
 use thinning::raw;
 
-use crate::buffers::{compare, due_length, lengths, Lent, Number};
+use crate::buffers::{compare, due_length, lengths, one_text, Lent, Number};
 use crate::difference::{Compared, Difference, Given, Text};
 use crate::networks::{any_text, judge, writer, MANY_VERTICES};
 
@@ -63,13 +63,10 @@ pub fn of_right_form(vertices: usize) -> Vec<u8> {
 
 /// The chain check, with buffers of every length or called seldom, as [`lengths`] has it.
 pub fn check(rng: &mut Rng, network: &[u8], chain: &[u8], seldom: bool) -> Compared {
-    let (kept_due, refusal) = match second::check_chain(network, chain) {
-        Ok(kept) => (kept, None),
-        Err(refusal) => (Vec::new(), Some(refusal)),
-    };
-    let due = due_length(rng, refusal.is_none().then_some(&kept_due[..]));
-    for [length] in lengths(rng, [due], seldom) {
-        check_into(rng, network, chain, &kept_due, refusal, length)?;
+    let due = second::check_chain(network, chain);
+    let length_due = due_length(rng, due.as_deref().ok());
+    for [length] in lengths(rng, [length_due], seldom) {
+        check_into(rng, network, chain, &due, length)?;
     }
     Ok(())
 }
@@ -79,27 +76,15 @@ pub fn check_into(
     rng: &mut Rng,
     network: &[u8],
     chain: &[u8],
-    kept_due: &[u8],
-    refusal: Option<Refusal>,
+    due: &Result<Vec<u8>, Refusal>,
     length: usize,
 ) -> Compared {
-    let mut kept = Lent::new(rng, length);
-    let mut written = Number::new(rng);
-    let answer = raw::check_chain(network, chain, kept.buffer(), written.place());
-    compare(
-        "chain check",
-        answer,
-        refusal,
-        &[("network", &Text(network)), ("chain", &Text(chain))],
-        &[
-            &("kept", &kept, kept_due),
-            &("kept_written", &written, kept_due.len()),
-        ],
-    )?;
-    if answer != 0 {
-        return Ok(());
-    }
-    judge("chain check", network, &kept.buffer()[..kept_due.len()])
+    let service = "chain check";
+    let given: &Given = &[("network", &Text(network)), ("chain", &Text(chain))];
+    let kept = one_text(service, rng, given, due, length, |kept, written| {
+        raw::check_chain(network, chain, kept, written)
+    })?;
+    kept.map_or(Ok(()), |kept| judge(service, network, &kept))
 }
 
 /// Reader and writer on columns with any numbers, which may differ in length, and on their

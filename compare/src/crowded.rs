@@ -73,7 +73,7 @@ pub fn services(rng: &mut Rng, case: &Case) -> Compared {
         networks::plan_into(rng, text, Err(refusal), lengths)?;
     }
     let length = due_length::<u8>(rng, None);
-    chains::check_into(rng, text, chain, &[], Some(refusal), length)?;
+    chains::check_into(rng, text, chain, &Err(refusal), length)?;
     lists::audit(rng, text, list)?;
     pages::print(rng, text, list)?;
     candidates::plan(rng, text, &CANDIDATES)

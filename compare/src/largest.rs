@@ -209,10 +209,11 @@ fn plans(rng: &mut Rng, case: &Case) -> Compared {
 /// The check of the planner's chain gives the planner's kept text, or 13 a byte short of it.
 fn passing_chain(rng: &mut Rng, case: &Case) -> Compared {
     let Plan { chain, kept } = &case.plan;
-    chains::check_into(rng, &case.text, chain, kept, None, kept.len())?;
+    let due = Ok(kept.clone());
+    chains::check_into(rng, &case.text, chain, &due, kept.len())?;
     match case.short {
         Short::Chain => Ok(()),
-        Short::Kept => chains::check_into(rng, &case.text, chain, kept, None, kept.len() - 1),
+        Short::Kept => chains::check_into(rng, &case.text, chain, &due, kept.len() - 1),
     }
 }
 
@@ -223,7 +224,7 @@ fn wrong_chain(rng: &mut Rng, case: &Case, place: usize) -> Compared {
         Short::Kept => aimed(rng, case, place)?,
     };
     match second::check_chain(&case.text, &chain) {
-        Err(refusal) => chains::check_into(rng, &case.text, &chain, &[], Some(refusal), 0),
+        Err(refusal) => chains::check_into(rng, &case.text, &chain, &Err(refusal), 0),
         Ok(kept) => Err(not_meant(
             "chain check",
             "a refusal",

@@ -6,7 +6,7 @@ use second::properties::judge_kept;
 use second::{columns, Network, Plan, Refusal};
 use thinning::raw;
 
-use crate::buffers::{compare, due_length, lengths, Lent, Number};
+use crate::buffers::{compare, due_length, lengths, one_text, Lent, Number};
 use crate::difference::{Compared, Difference, Given, Text, Words};
 
 /// Plans and chain checks of networks with more vertices take long.
@@ -210,25 +210,9 @@ pub fn writer(
     due: &Result<Vec<u8>, Refusal>,
     write: impl Fn(&mut [u8], &mut usize) -> u32,
 ) -> Compared {
-    let (text_due, refusal) = match due {
-        Ok(text) => (&text[..], None),
-        Err(refusal) => (&[][..], Some(*refusal)),
-    };
-    let due = due_length(rng, due.as_deref().ok());
-    for [length] in lengths(rng, [due], false) {
-        let mut text = Lent::new(rng, length);
-        let mut written = Number::new(rng);
-        let answer = write(text.buffer(), written.place());
-        compare(
-            service,
-            answer,
-            refusal,
-            given,
-            &[
-                &("text", &text, text_due),
-                &("written", &written, text_due.len()),
-            ],
-        )?;
+    let length_due = due_length(rng, due.as_deref().ok());
+    for [length] in lengths(rng, [length_due], false) {
+        one_text(service, rng, given, due, length, &write)?;
     }
     Ok(())
 }

@@ -9,7 +9,7 @@ use second::texts::MOST_VERTICES;
 use second::{Network, Refusal};
 use thinning::raw;
 
-use crate::buffers::{compare, due_length, Lent, Number};
+use crate::buffers::{due_length, one_text};
 use crate::difference::{Compared, Difference, Given, Text, Words};
 
 const SERVICE: &str = "page";
@@ -195,24 +195,11 @@ pub fn print_into(
     due: &Result<Vec<u8>, Refusal>,
     length: usize,
 ) -> Compared {
-    let mut page = Lent::new(rng, length);
-    let mut written = Number::new(rng);
-    let answer = raw::print_page(network, list, page.buffer(), written.place());
-    let page_due = due.as_deref().unwrap_or_default();
-    compare(
-        SERVICE,
-        answer,
-        due.as_ref().err().copied(),
-        &[("network", &Text(network)), ("list", &Text(list))],
-        &[
-            &("page", &page, page_due),
-            &("written", &written, page_due.len()),
-        ],
-    )?;
-    if answer != 0 {
-        return Ok(());
-    }
-    judge(network, list, &page.buffer()[..page_due.len()])
+    let given: &Given = &[("network", &Text(network)), ("list", &Text(list))];
+    let page = one_text(SERVICE, rng, given, due, length, |page, written| {
+        raw::print_page(network, list, page, written)
+    })?;
+    page.map_or(Ok(()), |page| judge(network, list, &page))
 }
 
 /// What is promised of every page, judged without printing one.

@@ -7,7 +7,8 @@ use crate::texts::{read_network, Network};
 /// How cuts are judged. All methods give the same answers.
 #[derive(Clone, Copy, Debug, PartialEq, Eq)]
 pub enum Method {
-    /// Count across every cut up to ten vertices; above, as [`Method::ContractedFlow`].
+    /// Count across every cut up to [`Method::MOST_COUNTED`] vertices; above, up to [`Method::MOST_BY_EVERY_FLOW`], as
+    /// [`Method::EveryFlow`], which rests on no lemma about splittings; above that, as [`Method::ContractedFlow`].
     Mixed,
     /// Count across every cut, up to [`MOST_ENUMERATED`] vertices; above, by flows.
     Enumeration,
@@ -27,13 +28,23 @@ pub(crate) enum Settled {
 }
 
 impl Method {
+    /// Every method; all of them give the same answers.
+    pub const ALL: [Method; 4] = [
+        Method::Mixed,
+        Method::Enumeration,
+        Method::EveryFlow,
+        Method::ContractedFlow,
+    ];
     /// The most vertices for which [`Method::Mixed`] counts across every cut.
-    pub const MOST_MIXED: usize = 10;
+    pub const MOST_COUNTED: usize = 10;
+    /// The most vertices for which [`Method::Mixed`] takes flows to every vertex.
+    pub const MOST_BY_EVERY_FLOW: usize = 64;
 
     /// What is done for a network of so many vertices.
     pub(crate) fn settle(self, vertices: usize) -> Settled {
         match self {
-            Method::Mixed if vertices <= Self::MOST_MIXED => Settled::Enumeration,
+            Method::Mixed if vertices <= Self::MOST_COUNTED => Settled::Enumeration,
+            Method::Mixed if vertices <= Self::MOST_BY_EVERY_FLOW => Settled::EveryFlow,
             Method::Enumeration if vertices <= MOST_ENUMERATED => Settled::Enumeration,
             Method::Enumeration | Method::EveryFlow => Settled::EveryFlow,
             Method::Mixed | Method::ContractedFlow => Settled::ContractedFlow,

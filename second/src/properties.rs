@@ -133,7 +133,7 @@ pub fn every_cut_has_two(network: &Network, numbers: &[usize]) -> bool {
         vertices: whole.vertices,
         edges: numbers.iter().map(|&edge| whole.edges[edge]).collect(),
     };
-    if kept.vertices <= Method::MOST_MIXED {
+    if kept.vertices <= Method::MOST_COUNTED {
         kept.every_cut_counted(2)
     } else {
         kept.every_cut_by_flows(2)

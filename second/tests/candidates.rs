@@ -5,7 +5,7 @@ mod common;
 use std::cell::RefCell;
 use std::collections::BTreeSet;
 
-use common::{lines_replaced, network_text, rounds, T, T_PLAN};
+use common::{lines_replaced, network_text, refused_in_order, rounds, T, TWO_ACROSS, T_PLAN};
 use second::generate::{self, CandidateStyle, NetworkAim, Rng, WrongPlace};
 use second::lengths::{candidates_text, fits};
 use second::properties::judge_candidates;
@@ -13,13 +13,6 @@ use second::{
     check_network, plan, plan_candidates, plan_candidates_by, read_candidates, Method, Network,
     Refusal, Sums,
 };
-
-const METHODS: [Method; 4] = [
-    Method::Mixed,
-    Method::Enumeration,
-    Method::EveryFlow,
-    Method::ContractedFlow,
-];
 
 /// The frames 06 of the printed network, by the edge that is reserved. The kept edges are 1, 2, 5;
 /// then 0, 2, 5; then 1, 3, 5; then 1, 2, 5 twice; then 1, 2, 4.
@@ -61,7 +54,7 @@ fn single_plan(network: &Network, edge: u16) -> Vec<u8> {
 fn the_printed_network_with_each_edge_reserved() {
     assert!(T_PLAN.ends_with(T_FRAMES[0]));
     let all = [0, 1, 2, 3, 4, 5];
-    for method in METHODS {
+    for method in Method::ALL {
         let text = plan_candidates_by(T.as_bytes(), &all, method).unwrap();
         assert_eq!(text, T_FRAMES.concat().into_bytes());
     }
@@ -144,16 +137,6 @@ fn numbers_on_both_sides_of_the_highest_limit() {
 /// Networks near the printed one with the refusals of their checks, each number once or more.
 fn refused_networks() -> Vec<(Vec<u8>, Refusal)> {
     let with = |lines: &[(usize, &str)]| lines_replaced(T, lines);
-    let thin = [
-        (0, 1),
-        (0, 1),
-        (0, 1),
-        (2, 3),
-        (2, 3),
-        (2, 3),
-        (0, 2),
-        (1, 3),
-    ];
     vec![
         (Vec::new(), 1),
         (T.as_bytes()[..T.len() - 1].to_vec(), 1),
@@ -165,16 +148,23 @@ fn refused_networks() -> Vec<(Vec<u8>, Refusal)> {
         (with(&[(2, "020002000000010000000000000004")]), 4),
         (with(&[(1, "02000000000001000000e8d4a51001")]), 5),
         (with(&[(6, "020005000000020000000000000003")]), 6),
-        (network_text(4, 0, &thin, &[0; 8]), 7),
+        (network_text(4, 0, &TWO_ACROSS, &[0; 8]), 7),
     ]
 }
 
 #[test]
 fn the_network_before_the_list_and_the_list_before_the_buffer() {
-    let accepted = (T.as_bytes().to_vec(), 0);
-    let networks = [vec![accepted], refused_networks()].concat();
-    let of_networks: BTreeSet<Refusal> = networks.iter().map(|(_, refusal)| *refusal).collect();
-    assert_eq!(of_networks, (0..=7).collect());
+    let mut networks = vec![(T.as_bytes().to_vec(), None)];
+    networks.extend(
+        refused_networks()
+            .into_iter()
+            .map(|(text, refusal)| (text, Some(refusal))),
+    );
+    let met: BTreeSet<Refusal> = networks
+        .iter()
+        .filter_map(|(_, refusal)| *refusal)
+        .collect();
+    assert_eq!(met, (1..=7).collect());
     let lists: [(&[u16], Option<Refusal>); 7] = [
         (&[], None),
         (&[0], None),
@@ -184,19 +174,16 @@ fn the_network_before_the_list_and_the_list_before_the_buffer() {
         (&[0, 8, 0], Some(3)),
         (&[0, 0, 8], Some(3)),
     ];
-    for (network, of_network) in &networks {
-        assert_eq!(check_network(network).err().unwrap_or(0), *of_network);
-        let of_network = Some(*of_network).filter(|&refusal| refusal > 0);
-        for (list, of_list) in lists {
-            let due = candidates_text(list.len());
-            for lent in [0, due.saturating_sub(35), due.saturating_sub(1), due, 200] {
-                let short = (lent < due).then_some(13);
-                let refusal = of_network.or(of_list).or(short);
-                let answer = planned_into(network, list, lent);
-                assert_eq!(answer.err(), refusal, "{list:?} into {lent}");
-            }
-        }
+    for (network, refusal) in &networks {
+        assert_eq!(check_network(network).err(), *refusal);
     }
+    refused_in_order(
+        &networks,
+        &lists,
+        |list| candidates_text(list.len()),
+        candidates_text(1),
+        |network, list, lent| planned_into(network, list, lent).err(),
+    );
 }
 
 #[test]
@@ -271,7 +258,7 @@ fn every_method_gives_the_same_frames() {
         let text = generate::text(&network);
         let list = generate::candidates(rng, &network);
         let frames = plan_candidates(&text, &list);
-        for method in METHODS {
+        for method in Method::ALL {
             assert_eq!(plan_candidates_by(&text, &list, method), frames);
         }
     });

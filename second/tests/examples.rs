@@ -2,18 +2,11 @@
 
 mod common;
 
-use common::{network_text, T, T_PLAN};
+use common::{network_text, T, TWO_ACROSS, T_PLAN};
 use second::{
     audit, check_chain_by, check_network, check_network_by, plan_by, plan_output, read_kept,
     write_chain, write_kept, write_list, Audit, Chain, Kept, Method, Step,
 };
-
-const METHODS: [Method; 4] = [
-    Method::Mixed,
-    Method::Enumeration,
-    Method::EveryFlow,
-    Method::ContractedFlow,
-];
 
 /// Steps, dropped edge, kept edges, kept cost and total.
 type Outcome<'a> = (&'a [(u16, u16, u16)], u16, &'a [u16], i64, i64);
@@ -23,7 +16,7 @@ fn assert_planned(network: &[u8], vertices: usize, (steps, dropped, edges, cost,
     let edges = edges.to_vec();
     let chain = write_chain(vertices, &Chain { steps, dropped }).unwrap();
     let kept = write_kept(&Kept { edges, cost, total });
-    for method in METHODS {
+    for method in Method::ALL {
         let plan = plan_by(network, method).unwrap();
         assert_eq!(plan.chain, chain);
         assert_eq!(plan.kept, kept);
@@ -44,7 +37,7 @@ fn t_with(costs: [i64; 6]) -> Vec<u8> {
 
 #[test]
 fn the_printed_input_gives_the_printed_output() {
-    for method in METHODS {
+    for method in Method::ALL {
         assert_eq!(plan_output(T.as_bytes(), method), T_PLAN.as_bytes());
     }
     assert_eq!(t_with([7, 4, 1, 2, 6, 3]), T.as_bytes());
@@ -111,7 +104,7 @@ fn refused_chains_over_the_printed_network() {
         (b"03000100040005\n040002\n", 12),
     ];
     for (chain, refusal) in cases {
-        for method in METHODS {
+        for method in Method::ALL {
             assert_eq!(check_chain_by(T.as_bytes(), chain, method), Err(refusal));
         }
     }
@@ -119,19 +112,9 @@ fn refused_chains_over_the_printed_network() {
 
 #[test]
 fn refused_networks() {
-    let threefold = [
-        (0, 1),
-        (0, 1),
-        (0, 1),
-        (2, 3),
-        (2, 3),
-        (2, 3),
-        (0, 2),
-        (1, 3),
-    ];
     let uneven = [(0, 1), (0, 1), (0, 1), (0, 2), (0, 2), (1, 2)];
-    for method in METHODS {
-        let network = network_text(4, 0, &threefold, &[0; 8]);
+    for method in Method::ALL {
+        let network = network_text(4, 0, &TWO_ACROSS, &[0; 8]);
         assert_eq!(check_network_by(&network, method), Err(7));
         let network = network_text(3, 0, &uneven, &[0; 6]);
         assert_eq!(check_network_by(&network, method), Err(6));

@@ -5,7 +5,7 @@ mod common;
 use std::cell::RefCell;
 use std::collections::{BTreeMap, BTreeSet};
 
-use common::{network, network_text, rounds, T};
+use common::{network, network_text, refused_in_order, rounds, T, TWO_ACROSS};
 use second::generate::{self, ListStyle, NetworkAim, PrintedCosts, Rng};
 use second::lengths::{self, fits, LONGEST_PAGE};
 use second::page::LINE_LENGTH;
@@ -149,17 +149,7 @@ fn networks_that_a_check_refuses_are_printed() {
     ]
     .concat();
     assert_eq!(printed(&uneven, 3, &[4]), page);
-    let ends = [
-        (0, 1),
-        (0, 1),
-        (0, 1),
-        (2, 3),
-        (2, 3),
-        (2, 3),
-        (0, 2),
-        (1, 3),
-    ];
-    let thin = network_text(4, 0, &ends, &[9; 8]);
+    let thin = network_text(4, 0, &TWO_ACROSS, &[9; 8]);
     assert_eq!(check_network(&thin), Err(7));
     let page = [
         "     0     0     1                 9\n",
@@ -197,17 +187,13 @@ fn the_network_before_the_list_and_the_list_before_the_buffer() {
         (b"050001\n050001\n", Some(14)),
         (b"050001\n050000\njunk", Some(14)),
     ];
-    for (network, of_network) in &networks {
-        for (list, of_list) in lists {
-            let due = lengths::page(list.len() / lengths::list_text(1));
-            for lent in [0, due - LINE_LENGTH, due - 1, due, due + 1] {
-                let short = (lent < due).then_some(13);
-                let refusal = of_network.or(of_list).or(short);
-                let answer = printed_into(network, list, lent);
-                assert_eq!(answer.err(), refusal, "{lent}");
-            }
-        }
-    }
+    refused_in_order(
+        &networks,
+        &lists,
+        |list| lengths::page(list.len() / lengths::list_text(1)),
+        LINE_LENGTH,
+        |network, list, lent| printed_into(network, list, lent).err(),
+    );
 }
 
 #[test]

@@ -124,11 +124,6 @@ fn every_reserved_edge_of_a_table() {
 
 #[test]
 fn the_ways_of_judging_cuts_agree() {
-    let methods = [
-        Method::Enumeration,
-        Method::EveryFlow,
-        Method::ContractedFlow,
-    ];
     rounds(300, |rng| {
         let size = rng.between(2, 12);
         let table = if rng.once_in(3) {
@@ -137,7 +132,7 @@ fn the_ways_of_judging_cuts_agree() {
             generate::table(rng, size)
         };
         let text = generate::table_text(&table);
-        for method in methods {
+        for method in Method::ALL {
             assert_eq!(check_table_by(&text, method), check_table(&text));
             assert_eq!(plan_table_by(&text, method), plan_table(&text));
         }

@@ -2,8 +2,10 @@
 
 #![allow(dead_code)]
 
+use std::fmt::Debug;
+
 use second::generate::{Damage, Rng};
-use second::{write_network, Edge, Network};
+use second::{write_network, Edge, Network, Refusal};
 
 /// The network printed in the rules, three vertices.
 pub const T: &str = "\
@@ -25,6 +27,19 @@ pub const T_PLAN: &str = "\
 050005
 0600000000000000080000000000000010
 ";
+
+/// Two pairs of vertices, each joined threefold, with an edge from either vertex of one pair to one of the other: every
+/// vertex has four edges, and two cross the cut between the pairs.
+pub const TWO_ACROSS: [(u16, u16); 8] = [
+    (0, 1),
+    (0, 1),
+    (0, 1),
+    (2, 3),
+    (2, 3),
+    (2, 3),
+    (0, 2),
+    (1, 3),
+];
 
 /// A table of three vertices, two edges between any two of them.
 pub const TRIANGLE: &str = "\
@@ -78,6 +93,28 @@ pub fn network(vertices: usize, reserved: usize, ends: &[(u16, u16)], costs: &[i
         vertices,
         reserved,
         edges: edges.collect(),
+    }
+}
+
+/// Asks a service for the text of every list over every network, into buffers of several lengths: a network's refusal
+/// comes before a list's, and that before 13. So many bytes are due for a list, and so many of them are its last line.
+pub fn refused_in_order<L: Copy + Debug>(
+    networks: &[(Vec<u8>, Option<Refusal>)],
+    lists: &[(L, Option<Refusal>)],
+    due: impl Fn(L) -> usize,
+    last_line: usize,
+    refusal: impl Fn(&[u8], L, usize) -> Option<Refusal>,
+) {
+    for (network, of_network) in networks {
+        for &(list, of_list) in lists {
+            let due = due(list);
+            let shorter = [0, due.saturating_sub(last_line), due.saturating_sub(1)];
+            for lent in shorter.into_iter().chain([due, due + 1]) {
+                let short = (lent < due).then_some(13);
+                let first = of_network.or(of_list).or(short);
+                assert_eq!(refusal(network, list, lent), first, "{list:?} into {lent}");
+            }
+        }
     }
 }
 
