@@ -1,4 +1,4 @@
-// Whether every cut of a network is crossed by at least four edges, and what is decided by it.
+// Whether every cut of a network is crossed by at least four edges, and whether a partner is admissible.
 ghost use Prim.Native.Nat.{_≤_};
 ghost use lib.ListN.{length};
 ghost use mathlib.Core.Path.{_≡_};
