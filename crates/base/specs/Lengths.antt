@@ -7,7 +7,7 @@ longestNetwork = 15883
 
 -- a chain text (law `longest-chain`)
 abbrev pub longestChain : ℕ
-longestChain = 3817
+longestChain = 8897
 
 -- a kept text (law `longest-kept`)
 abbrev pub longestKept : ℕ

@@ -64,3 +64,7 @@ WEIGHT = 15
 -- more spans than a network has edges, or weights that total another number
 abbrev pub TOTAL : ℕ
 TOTAL = 16
+
+-- z is not the third partner, or its cost is not the one after the step
+abbrev pub NOT-GIVEN : ℕ
+NOT-GIVEN = 17

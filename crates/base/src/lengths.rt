@@ -3,7 +3,7 @@
 
 pub const LONGEST_NETWORK: usize = 15_883;
 
-pub const LONGEST_CHAIN: usize = 3_817;
+pub const LONGEST_CHAIN: usize = 8_897;
 
 pub const LONGEST_KEPT: usize = 3_619;
 

@@ -28,6 +28,7 @@ pub use refusals::NO_END;
 pub use refusals::NO_PARTNER;
 pub use refusals::NOT_ADMISSIBLE;
 pub use refusals::NOT_DEAREST;
+pub use refusals::NOT_GIVEN;
 pub use refusals::RESERVED;
 pub use refusals::SHORT;
 pub use refusals::TOTAL;

@@ -47,3 +47,6 @@ pub const WEIGHT: u8 = 15;
 
 // More spans than a network has edges, or weights that total another number.
 pub const TOTAL: u8 = 16;
+
+// z is not the third partner, or its cost is not the one after the step.
+pub const NOT_GIVEN: u8 = 17;
