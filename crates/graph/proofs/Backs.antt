@@ -13,9 +13,9 @@ use lib.Seq.{ext-getD, getD-set-same, getD-set-other, lt-length-set}
 use Rattle.base.specs.Answer.{answer}
 use Rattle.base.specs.Fold.{only, without, among}
 use Rattle.graph.specs.Network.{kept}
-use Rattle.graph.specs.Split.{split, third, after}
+use Rattle.graph.specs.Split.{split, after}
 use Rattle.graph.specs.Chain.{lastEdges, marks, endKept, lift, check, LastEdge, StepByRule, ByRules, ending, step}
-use Rattle.graph.specs.Back.{EndKeeps, Third, StepKeeps, Back, ending as ends, step as goes}
+use Rattle.graph.specs.Back.{EndKeeps, StepKeeps, Back, ending as ends, step as goes}
 use Rattle.graph.specs.Sound.{Formed, Sound}
 use Rattle.graph.specs.Condition.{Good}
 use Rattle.graph.specs.declared.Network.{Network}
@@ -102,30 +102,9 @@ end-one {g} {d} {K} {L} k l = ext-getD false K L (k .sized ∙ sym (l .sized)) (
 
 -- ── a step ──
 module _ {g : Network} {t : Step} (w : Stepped g t) where
-  -- the partner that is left is z
-  is-third : Third g t (third g t)
-  is-third =
-      let f = w .at .four in
-      record {
-        partner = record { number = f .z<; at-v = starts-at (w .at .to-c); not-reserved = λ q. f .rz (sym q) };
-        not-x = λ q. f .xz (sym q);
-        not-y = λ q. f .yz (sym q);
-      }
-
-  -- and there is no other: an edge at v is the reserved one, x, y or z
-  one-third : {z : ℕ} → Third g t z → z ≡ third g t
-  one-third {z} p = elim (ℕ-discrete z (third g t)) [
-    | yes q ↦ q
-    | no q ↦ absurd (omega (
-      arith,
-      w .at .rest z (p .partner .number) (p .partner .not-reserved) (p .not-x) (p .not-y) q,
-      touch-ends g (t .v) z (touches-at g (t .v) z (p .partner .at-v)),
-    ))
-  ]
-
   -- the check goes back as the rule says
   lift-ruled : (later : List Bool) → g .edges ≤ length later
-      → StepKeeps (t .x) (t .y) (third g t) later (lift (t .x) (t .y) (third g t) later)
+      → StepKeeps (t .x) (t .y) (t .z) later (lift (t .x) (t .y) (t .z) later)
   unfolding lift
   lift-ruled later room =
       let x-place : t .x < length later = omega (arith, w .at .four .x<) in
@@ -149,7 +128,7 @@ step-one {x} {y} {K = K} {L = L} k l = ext-getD false K L (k .sized ∙ sym (l .
 
 -- going back through a step keeps a good set good: cuts by `lift-cuts`, the ratio by `ratio-step`
 good-step : {g : Network} → Sound g → {t : Step} → StepByRule g t → (w : Stepped g t) {later K : List Bool}
-    → StepKeeps (t .x) (t .y) (third g t) later K
+    → StepKeeps (t .x) (t .y) (t .z) later K
     → Good (after g t) later → Good g K
 unfolding after
 good-step {g} sound r w {later} {K} k q =
@@ -167,9 +146,9 @@ good-step {g} sound r w {later} {K} k q =
 pub back-good : {g : Network} {ts : List Step} {d : ℕ} {K : List Bool} → Sound g → ByRules g ts d → Back g ts d K
     → Good g K
 back-good sound (ending two r) (ends k) = end-good sound two r k
-back-good {ts = t ∷ ts} sound (step more r rest) (goes b p k) =
+back-good {ts = t ∷ ts} sound (step more r rest) (goes b k) =
     let w = stepped sound (omega arith) t r in
-    good-step sound r w (rw (one-third w p) at k) (back-good (sound-step sound t w) rest b)
+    good-step sound r w k (back-good (sound-step sound t w) rest b)
 
 -- it is a set of the network's edges
 pub back-below : {g : Network} {ts : List Step} {d : ℕ} {K : List Bool} → Sound g → ByRules g ts d → Back g ts d K
@@ -182,7 +161,7 @@ back-below {g} {d = d} {K = K} sound (ending two r) (ends k) e h = elim (ℕ-dis
     go : (t : Bool) → among e (lastEdges g) ≡ t → e ≢ d → e < g .edges
     go true m q = last-of g e m .number
     go false m q = never (sym (k .rest e (not-last g e m) q) ∙ h)
-back-below {g} {ts = t ∷ ts} {K = K} sound (step more r rest) (goes b p k) e h =
+back-below {g} {ts = t ∷ ts} {K = K} sound (step more r rest) (goes b k) e h =
     let w = stepped sound (omega arith) t r in
     elim (ℕ-discrete e (t .x)) [
       | yes q ↦ rw q (w .at .four .x<)
@@ -205,24 +184,24 @@ check-back {g} {ts = t ∷ ts} {d = d} {K = K} sound (step more r rest) h =
     let w = stepped sound (omega arith) t r in
     let next = sound-step sound t w in
     let b = check-back next rest (c .later-keeps) in
-    rw (← c .marks-are) (goes b (is-third w) (lift-ruled w (c .later) (room (c .later) (back-good next rest b .sized))))
+    rw (← c .marks-are) (goes b (lift-ruled w (c .later) (room (c .later) (back-good next rest b .sized))))
   where
     room : (K : List Bool) → length K ≡ length (after g t .low) → g .edges ≤ length K
     room K e = unfold after split in omega (arith, simp length-set at e, sound .formed .low-room)
 
--- going back gives one set of marks at most: the ending settles each mark, and so does a step, whose z is settled too
+-- going back gives one set of marks at most: the ending settles each mark, and so does a step
 pub back-one : {g : Network} {ts : List Step} {d : ℕ} {K L : List Bool} → Sound g → ByRules g ts d → Back g ts d K
     → Back g ts d L → K ≡ L
 back-one sound (ending two r) (ends k) (ends l) = end-one k l
-back-one {ts = t ∷ ts} sound (step more r rest) (goes b p k) (goes c q l) =
+back-one {ts = t ∷ ts} sound (step more r rest) (goes b k) (goes c l) =
     let w = stepped sound (omega arith) t r in
     let same = back-one (sound-step sound t w) rest b c in
-    step-one (rw (same, one-third w p) at k) (rw (one-third w q) at l)
+    step-one (rw same at k) l
 
 -- a chain by the rules passes its check, which keeps what going back gives
 pub back-check : {g : Network} {ts : List Step} {d : ℕ} {K : List Bool} → Sound g → ByRules g ts d → Back g ts d K
     → check g ts d ≡ answer K
-back-check sound r b = let w = ruled-passes r in w .1 ∙ ap answer (back-one sound r (check-back sound r (w .1)) b)
+back-check sound r b = let w = ruled-passes sound r in w .1 ∙ ap answer (back-one sound r (check-back sound r (w .1)) b)
 
 -- what a passing chain keeps is good
 pub passes-good : (ts : List Step) {g : Network} → Sound g → (d : ℕ) (K : List Bool) → check g ts d ≡ answer K

@@ -23,7 +23,7 @@ use Rattle.base.proofs.Bools.{never, eqb-is}
 use Rattle.base.proofs.Sums.{sum-ext, sum-ones, term-le, each-at}
 use Rattle.graph.proofs.EveryCut.{every-cut-sound}
 use Rattle.graph.proofs.Lifting.{weight-after}
-use Rattle.graph.proofs.Rules.{ruled-step, Stepped, stepped, sound-step, sound-either}
+use Rattle.graph.proofs.Rules.{ruled-step, Stepped, stepped, sound-step, sound-either, cost-named}
 use Rattle.graph.proofs.Checking.{passes-ruled, ruled-passes}
 use Rattle.graph.proofs.Backs.{back-good, check-back, back-one, back-check}
 use Rattle.graph.proofs.Plans.{chosen-ruled, chosen-drop-passes}
@@ -41,7 +41,7 @@ plan-checked (suc n) {g} sound e =
     let r = chosen-ruled sound two in
     rw (
       lt-ltb 2 (g .remaining) more,
-      ruled-step g t r,
+      ruled-step sound two t r,
       plan-checked n (sound-step sound t (stepped sound two t r)) (fewer e),
     )
   where
@@ -95,11 +95,12 @@ condition {g} fresh two h =
         λ h. let r = passes-ruled ts sound d K h in (r, check-back sound r h),
         λ p. back-check sound (p .0) (p .1),
       );
-      one = λ ts d r. let w = ruled-passes r in let b =
+      one = λ ts d r. let w = ruled-passes sound r in let b =
           check-back sound r (w .1) in (w .0, b, λ L c. back-one sound r c b);
       good = λ ts d K r b. back-good sound r b;
       exists = (planSteps n g, planDrop n g, passes-ruled (planSteps n g) sound (planDrop n g) (planKept n g) passes);
       either = λ ts h l more t r. sound-either (leads-sound sound l) (omega arith) t r;
+      named = λ ts h l more t r. cost-named (leads-sound sound l) (omega arith) t r;
     }
 
 -- ── working costs ──

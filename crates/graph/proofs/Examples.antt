@@ -5,18 +5,18 @@ use mathlib.Core.List.{List, [], _∷_, map}
 use Prim.Native.Nat.{ℕ}
 use lib.Dec.{eqb}
 use lib.IntN.{ℤ}
-use lib.Signed.{leZ}
 use lib.ListN.{length, replicate}
 use Rattle.base.specs.Answer.{Answer, answer, refused, unless}
 use Rattle.base.specs.Fold.{fold, pick, only, among, tabulate}
-use Rattle.graph.specs.Network.{endsAt, degree, touches, far, costOver, keptCost, allButReserved, kept}
+use Rattle.graph.specs.Network.{sameCost, endsAt, degree, touches, far, costOver, keptCost, allButReserved}
+use Rattle.graph.specs.Network.{kept}
 use Rattle.graph.specs.Cut.{differ, crosses, crossingsOf, everySide, somewhere, crossedBy, everyCutOf, fourEach}
 use Rattle.graph.specs.Cut.{networkRefusal}
 use Rattle.graph.specs.Split.{isPartner, partners, split, splitWith, admissible, third, after}
 use Rattle.graph.specs.Chain.{stepRefusal, lastEdges, dearest, endRefusal, marks, endKept, lift, lifted, check}
 use Rattle.graph.specs.Plan.{chosenVertex, ordered, chosenPair, chosenStep, dearestOf, chosenDrop, planSteps}
 use Rattle.graph.specs.Plan.{planDrop}
-use Rattle.graph.specs.Districts.{District, T, Case, plans, breaks, refuses, table, unmarked, every}
+use Rattle.graph.specs.Districts.{District, T, Numbers, Case, plans, breaks, refuses, table, unmarked, every}
 use Rattle.graph.specs.declared.Network.{Network}
 use Rattle.graph.specs.declared.Step.{Step}
 use Rattle.base.proofs.Bools.{and-left, and-right}
@@ -35,8 +35,8 @@ networkOf d =
       remaining = d .vertices;
     }
 
-unfoldable pub stepOf : ℕ × ℕ × ℕ → Step
-stepOf t = record { v = t .0; x = t .1; y = t .2 }
+unfoldable pub stepOf : Numbers → Step
+stepOf t = record { v = t .0; x = t .1; y = t .2; z = t .3; cost = t .4 }
 
 unfoldable pub sameNumbers : List ℕ → List ℕ → Bool
 sameNumbers [] [] = true
@@ -44,14 +44,13 @@ sameNumbers [] (j ∷ js) = false
 sameNumbers (i ∷ is) [] = false
 sameNumbers (i ∷ is) (j ∷ js) = eqb i j && sameNumbers is js
 
-unfoldable pub sameCost : ℤ → ℤ → Bool
-sameCost a b = leZ a b && leZ b a
-
 unfoldable pub sameSteps : List Step → List Step → Bool
 sameSteps [] [] = true
 sameSteps [] (s ∷ ss) = false
 sameSteps (t ∷ ts) [] = false
-sameSteps (t ∷ ts) (s ∷ ss) = eqb (t .v) (s .v) && eqb (t .x) (s .x) && eqb (t .y) (s .y) && sameSteps ts ss
+sameSteps (t ∷ ts) (s ∷ ss) =
+    eqb (t .v) (s .v) && eqb (t .x) (s .x) && eqb (t .y) (s .y) && eqb (t .z) (s .z) && sameCost (t .cost) (s .cost)
+    && sameSteps ts ss
 
 unfoldable pub keepsJust : Network → List ℕ → ℤ → ℤ → Answer (List Bool) → Bool
 keepsJust g is c a (refused k) = false
@@ -80,11 +79,12 @@ unfolding every networkOf stepOf sameNumbers sameCost sameSteps keepsJust refuse
     planDrop
 examples = refl
 
--- y is tested as x is
-pub y-tested : every holds unmarked ≡ true
-unfolding every networkOf stepOf refusedBy holds fold pick only among touches far differ crosses crossingsOf everySide
-    somewhere crossedBy everyCutOf isPartner partners split splitWith admissible stepRefusal lifted unless check
-y-tested = refl
+-- y is tested as x is, and z and its cost are tested behind them
+pub all-tested : every holds unmarked ≡ true
+unfolding every networkOf stepOf sameCost refusedBy holds fold pick only among touches far differ crosses crossingsOf
+    everySide somewhere crossedBy everyCutOf isPartner partners split splitWith admissible third stepRefusal lifted
+    unless check
+all-tested = refl
 
 -- two tests that hold of every row hold of it together
 pub every-both : {A : Type 0} (p q : A → Bool) (rows : List A) → every p rows ≡ true → every q rows ≡ true

@@ -11,17 +11,17 @@ use lib.IntN.{ℤ}
 use lib.Signed.{_≤ℤ_, leZ, ltZ}
 use Rattle.base.specs.Fold.{bit, only, among}
 use Rattle.graph.specs.Network.{lowEnd, highEnd, costOf, touches}
-use Rattle.graph.specs.Split.{partners, admissible}
+use Rattle.graph.specs.Split.{partners, admissible, stepGiven}
 use Rattle.graph.specs.Chain.{lastEdges, dearest, endRefusal, StepByRule}
 use Rattle.graph.specs.Plan.{chosenVertex, ordered, chosenPair, chosenStep, dearestOf, chosenDrop}
 use Rattle.graph.specs.Sound.{Sound}
 use Rattle.graph.specs.declared.Network.{Network}
 use Rattle.base.proofs.Bools.{eqb-self}
 use Rattle.base.proofs.Integers.{le-test, le-is, le-isnt, lt-is, lt-isnt, is-≤ℤ}
-use Rattle.graph.proofs.Partners.{another, touches-ends, three-partners, star}
+use Rattle.graph.proofs.Partners.{another, three-partners, star}
 use Rattle.graph.proofs.Lemma8.{lemma8}
 use Rattle.graph.proofs.Endings.{v-here, o-here, o≢v, held-v, last-is}
-use Rattle.graph.proofs.Rules.{partner-of, end-here, admissible-sound}
+use Rattle.graph.proofs.Rules.{end-here, given-ruled}
 
 -- ── the step ──
 
@@ -89,20 +89,11 @@ unfolding ordered
 ordered-ruled {g} sound two v i j held w = go (ltZ (costOf g i) (costOf g j)) refl
   where
     by : (x y : ℕ) → among x (partners g v) ≡ true → among y (partners g v) ≡ true → x ≢ y → admissible g v x ≡ true
-        → admissible g v y ≡ true
-        → costOf g y ≤ℤ costOf g x → StepByRule g (record { v = v; x = x; y = y })
-    by x y x-in y-in ne x-ok y-ok le = record {
-      at-end = touches-ends g v (g .reserved) held;
-      x-partner = partner-of g v x x-in;
-      y-partner = partner-of g v y y-in;
-      different = ne;
-      x-admissible = admissible-sound sound two v held _ (search) (search);
-      y-admissible = admissible-sound sound two v held _ (search) (search);
-      no-cheaper = le;
-    }
+        → admissible g v y ≡ true → costOf g y ≤ℤ costOf g x → StepByRule g (stepGiven g v x y)
+    by x y x-in y-in ne x-ok y-ok le = given-ruled sound two (stepGiven g v x y) held x-in y-in ne x-ok y-ok le refl
 
     go : (t : Bool) → ltZ (costOf g i) (costOf g j) ≡ t
-        → StepByRule g (cond t (record { v = v; x = j; y = i }) (record { v = v; x = i; y = j }))
+        → StepByRule g (cond t (stepGiven g v j i) (stepGiven g v i j))
     go true e = by j i (w .j-in) (w .i-in) (λ k. w .i≢j (sym k)) (w .j-ok) (w .i-ok)
         (is-≤ℤ (omega (arith, lt-is (costOf g i) (costOf g j) e)))
     go false e = by i j (w .i-in) (w .j-in) (w .i≢j) (w .i-ok) (w .j-ok) (is-≤ℤ (lt-isnt (costOf g i) (costOf g j) e))

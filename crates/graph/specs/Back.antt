@@ -7,7 +7,7 @@ use Prim.Native.Nat.{ℕ}
 use lib.ListN.{length}
 use Rattle.graph.specs.Network.{kept}
 use Rattle.graph.specs.Split.{after}
-use Rattle.graph.specs.Chain.{Partner, LastEdge}
+use Rattle.graph.specs.Chain.{LastEdge}
 use Rattle.graph.specs.declared.Network.{Network}
 use Rattle.graph.specs.declared.Step.{Step}
 
@@ -17,12 +17,6 @@ pub record EndKeeps (g : Network) (d : ℕ) (K : List Bool) : Type 0 where
   pub dropped : kept K d ≡ false
   pub others : (e : ℕ) → LastEdge g e → e ≢ d → kept K e ≡ true
   pub rest : (e : ℕ) → (LastEdge g e → ⊥) → e ≢ d → kept K e ≡ false
-
--- z is the partner that a step does not name
-pub record Third (g : Network) (t : Step) (z : ℕ) : Type 0 where
-  pub partner : Partner g (t .v) z
-  pub not-x : z ≢ t .x
-  pub not-y : z ≢ t .y
 
 -- going back through a step, from the marks after it to those before it:
 -- y is kept, x exactly if z is not, everything else as it was
@@ -35,5 +29,5 @@ pub record StepKeeps (x y z : ℕ) (later K : List Bool) : Type 0 where
 -- the marks that going back through all steps of a chain gives
 pub data Back : Network → List Step → ℕ → List Bool → Type 0 where
   ending : {g : Network} {d : ℕ} {K : List Bool} → EndKeeps g d K → Back g [] d K
-  step : {g : Network} {t : Step} {ts : List Step} {d z : ℕ} {later K : List Bool}
-      → Back (after g t) ts d later → Third g t z → StepKeeps (t .x) (t .y) z later K → Back g (t ∷ ts) d K
+  step : {g : Network} {t : Step} {ts : List Step} {d : ℕ} {later K : List Bool}
+      → Back (after g t) ts d later → StepKeeps (t .x) (t .y) (t .z) later K → Back g (t ∷ ts) d K

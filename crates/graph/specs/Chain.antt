@@ -6,24 +6,28 @@ use mathlib.Core.Path.{_≡_}
 use Prim.Native.Nat.{ℕ, _<_}
 use lib.Dec.{eqb, ltb}
 use lib.ListN.{length, getD, set}
+use lib.IntN.{_-ℤ_}
 use lib.Signed.{leZ, ltZ, _≤ℤ_}
 use Rattle.base.specs.Answer.{Answer, refused, answer, unless}
-use Rattle.base.specs.Refusals.{FORM, NO-END, NO-PARTNER, NOT-ADMISSIBLE, CHEAPER, NOT-DEAREST}
+use Rattle.base.specs.Refusals.{FORM, NO-END, NO-PARTNER, NOT-ADMISSIBLE, CHEAPER, NOT-DEAREST, NOT-GIVEN}
 use Rattle.base.specs.Limits.{fewestVertices}
 use Rattle.base.specs.Fold.{pick, among, tabulate}
-use Rattle.graph.specs.Network.{lowEnd, highEnd, costOf, here, touches}
-use Rattle.graph.specs.Split.{partners, Admissible, admissible, third, after}
+use Rattle.graph.specs.Network.{lowEnd, highEnd, costOf, sameCost, here, touches}
+use Rattle.graph.specs.Split.{partners, Admissible, admissible, stepGiven, after}
 use Rattle.graph.specs.declared.Network.{Network}
 use Rattle.graph.specs.declared.Step.{Step}
 
 -- ── the check, which computes ──
 
 -- the refusal of a step, 0 for none: 8 where v is no end of the reserved edge, 9 where x or y is no
--- partner or they are one, 10 where one of them is not admissible, 11 where x costs less than y
+-- partner or they are one, 10 where one of them is not admissible, 11 where x costs less than y,
+-- 17 where z or its cost is not what the step gives
 unfoldable pub stepRefusal : Network → Step → ℕ
 stepRefusal g t =
     let ps = partners g (t .v) in
-    let eleven : ℕ = cond (ltZ (costOf g (t .x)) (costOf g (t .y))) CHEAPER 0 in
+    let due = stepGiven g (t .v) (t .x) (t .y) in
+    let seventeen : ℕ = cond (eqb (t .z) (due .z) && sameCost (t .cost) (due .cost)) 0 NOT-GIVEN in
+    let eleven : ℕ = cond (ltZ (costOf g (t .x)) (costOf g (t .y))) CHEAPER seventeen in
     let ten : ℕ = cond (admissible g (t .v) (t .x) && admissible g (t .v) (t .y)) eleven NOT-ADMISSIBLE in
     let nine : ℕ = cond (among (t .x) ps && among (t .y) ps && not (eqb (t .x) (t .y))) ten NO-PARTNER in
     cond (touches g (t .v) (g .reserved)) nine NO-END
@@ -64,7 +68,7 @@ check g [] d =
     let ending = unless (endRefusal g d) (answer (endKept g d)) in
     cond (eqb (g .remaining) fewestVertices) ending (refused FORM)
 check g (t ∷ ts) d =
-    let later = lifted (t .x) (t .y) (third g t) (check (after g t) ts d) in
+    let later = lifted (t .x) (t .y) (t .z) (check (after g t) ts d) in
     cond (ltb fewestVertices (g .remaining)) (unless (stepRefusal g t) later) (refused FORM)
 
 -- ── the rules, as a relation ──
@@ -75,8 +79,8 @@ pub record Partner (g : Network) (v p : ℕ) : Type 0 where
   pub at-v : (lowEnd g p ≡ v) ⊎ (highEnd g p ≡ v)
   pub not-reserved : p ≢ g .reserved
 
--- a step by rule: two different admissible partners at an end of
--- the reserved edge, the first no cheaper than the second
+-- a step by rule: two different admissible partners at an end of the reserved edge, the first
+-- no cheaper than the second, and with them the third partner and what it costs after the step
 pub record StepByRule (g : Network) (t : Step) : Type 0 where
   pub at-end : (lowEnd g (g .reserved) ≡ t .v) ⊎ (highEnd g (g .reserved) ≡ t .v)
   pub x-partner : Partner g (t .v) (t .x)
@@ -85,6 +89,10 @@ pub record StepByRule (g : Network) (t : Step) : Type 0 where
   pub x-admissible : Admissible g (t .v) (t .x)
   pub y-admissible : Admissible g (t .v) (t .y)
   pub no-cheaper : costOf g (t .y) ≤ℤ costOf g (t .x)
+  pub z-partner : Partner g (t .v) (t .z)
+  pub z-not-x : t .z ≢ t .x
+  pub z-not-y : t .z ≢ t .y
+  pub z-cost : t .cost ≡ costOf g (t .z) -ℤ costOf g (t .x)
 
 -- one of the last three edges: it is neither retired nor reserved
 pub record LastEdge (g : Network) (e : ℕ) : Type 0 where

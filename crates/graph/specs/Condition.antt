@@ -8,7 +8,7 @@ use lib.ListN.{length}
 use lib.IntN.{pos, _*ℤ_}
 use lib.Signed.{_≤ℤ_}
 use Rattle.base.specs.Answer.{answer}
-use Rattle.graph.specs.Network.{kept, keptCost, allButReserved}
+use Rattle.graph.specs.Network.{costOf, kept, keptCost, allButReserved}
 use Rattle.graph.specs.Cut.{EveryCutOf}
 use Rattle.graph.specs.Split.{after, swapped}
 use Rattle.graph.specs.Chain.{check, StepByRule, ByRules, Leads}
@@ -39,7 +39,10 @@ pub record Condition (g : Network) : Type 0 where
   pub good : (ts : List Step) (d : ℕ) (K : List Bool) → ByRules g ts d → Back g ts d K → Good g K
   -- some chain keeps the rules
   pub exists : (ts : List Step) × (d : ℕ) × ByRules g ts d
-  -- wherever steps by rule lead, either partner that a step names may be
+  -- wherever steps by rule lead, either of x and y may be
   -- split with, so that both must be tested: a sound network is left
   pub either : (ts : List Step) (h : Network) → Leads g ts h → 2 < h .remaining → (t : Step) → StepByRule h t
       → Sound (after h t) × Sound (after h (swapped t))
+  -- and what a step says of z is what z costs on the network after it
+  pub named : (ts : List Step) (h : Network) → Leads g ts h → 2 < h .remaining → (t : Step) → StepByRule h t
+      → costOf (after h t) (t .z) ≡ t .cost

@@ -57,11 +57,15 @@ uneven = record {
       replicate 6 (pos 1);
 }
 
+-- a step: v, x, y, z and z's new cost
+abbrev pub Numbers : Type 0
+Numbers = ℕ × ℕ × ℕ × ℕ × ℤ
+
 pub data Case : Type 0 where
-  -- the planner's steps v, x, y and dropped edge, the kept edges, their cost and that of all but the reserved
-  plans : District → List (ℕ × ℕ × ℕ) → ℕ → List ℕ → ℤ → ℤ → Case
-  -- the refusal of a chain on T: one step v, x, y and a dropped edge
-  breaks : ℕ × ℕ × ℕ → ℕ → ℕ → Case
+  -- the planner's steps and dropped edge, the kept edges, their cost and that of all but the reserved
+  plans : District → List Numbers → ℕ → List ℕ → ℤ → ℤ → Case
+  -- the refusal of a chain on T: one step and a dropped edge
+  breaks : Numbers → ℕ → ℕ → Case
   -- the refusal of a network
   refuses : District → ℕ → Case
 
@@ -70,23 +74,30 @@ table =
     plans (two (pos 5 ∷ minus 1 ∷ pos 3 ∷ pos 3 ∷ [])) [] 3 (1 ∷ 2 ∷ []) (pos 2) (pos 5)
     ∷ plans (two (pos 9 ∷ pos 1 ∷ pos 1 ∷ pos 1 ∷ [])) [] 3 (1 ∷ 2 ∷ []) (pos 2) (pos 3)
     ∷ plans (two (pos 0 ∷ minus 4 ∷ minus 4 ∷ minus 6 ∷ [])) [] 2 (1 ∷ 3 ∷ []) (minus 10) (minus 14)
-    ∷ plans T ((1, 4, 5) ∷ []) 3 (1 ∷ 2 ∷ 5 ∷ []) (pos 8) (pos 16)
-    ∷ plans (triangle (pos 7 ∷ pos 40 ∷ pos 1 ∷ pos 2 ∷ pos 6 ∷ pos 3 ∷ [])) ((1, 4, 5) ∷ []) 1 (2 ∷ 3 ∷ 4 ∷ 5 ∷ [])
-    (pos 12) (pos 52)
-    ∷ plans (triangle (replicate 6 (pos 1))) ((1, 4, 5) ∷ []) 3 (1 ∷ 2 ∷ 5 ∷ []) (pos 3) (pos 5)
-    ∷ plans square ((2, 3, 2) ∷ (3, 5, 7) ∷ []) 1 (0 ∷ 2 ∷ 6 ∷ 7 ∷ []) (pos 11) (pos 23)
-    ∷ breaks (2, 4, 5) 3 8
-    ∷ breaks (1, 4, 0) 3 9
-    ∷ breaks (1, 1, 5) 3 10
-    ∷ breaks (1, 5, 4) 3 11
-    ∷ breaks (1, 4, 5) 2 12
+    ∷ plans T ((1, 4, 5, 1, minus 2) ∷ []) 3 (1 ∷ 2 ∷ 5 ∷ []) (pos 8) (pos 16)
+    ∷ plans (triangle (pos 7 ∷ pos 40 ∷ pos 1 ∷ pos 2 ∷ pos 6 ∷ pos 3 ∷ [])) ((1, 4, 5, 1, pos 34) ∷ []) 1
+    (2 ∷ 3 ∷ 4 ∷ 5 ∷ []) (pos 12) (pos 52)
+    ∷ plans (triangle (replicate 6 (pos 1))) ((1, 4, 5, 1, pos 0) ∷ []) 3 (1 ∷ 2 ∷ 5 ∷ []) (pos 3) (pos 5)
+    ∷ plans square ((2, 3, 2, 7, minus 2) ∷ (3, 5, 7, 6, pos 3) ∷ []) 1 (0 ∷ 2 ∷ 6 ∷ 7 ∷ []) (pos 11) (pos 23)
+    ∷ breaks (2, 4, 5, 1, minus 2) 3 8
+    ∷ breaks (1, 4, 0, 1, minus 2) 3 9
+    ∷ breaks (1, 1, 5, 4, pos 2) 3 10
+    ∷ breaks (1, 5, 4, 1, pos 1) 3 11
+    ∷ breaks (1, 4, 5, 1, minus 2) 2 12
     ∷ refuses halves 7
     ∷ refuses uneven 6
     ∷ []
 
--- and a chain that document 01 does not mark: x is admissible and y, parallel to the reserved edge, is not
+-- and chains that document 01 does not mark: y, parallel to the reserved edge, is not admissible while x is; another
+-- edge for z; z's cost before the step, and with c(x) added; x cheaper than y, and a cost that the step does not give
 abbrev pub unmarked : List Case
-unmarked = breaks (1, 4, 1) 3 10 ∷ []
+unmarked =
+    breaks (1, 4, 1, 5, minus 3) 3 10
+    ∷ breaks (1, 4, 5, 2, minus 2) 3 17
+    ∷ breaks (1, 4, 5, 1, pos 4) 3 17
+    ∷ breaks (1, 4, 5, 1, pos 10) 3 17
+    ∷ breaks (1, 5, 4, 1, minus 2) 3 11
+    ∷ []
 
 -- whether a test holds of every row
 unfoldable pub every : {A : Type 0} → (A → Bool) → List A → Bool

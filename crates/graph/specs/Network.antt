@@ -1,10 +1,11 @@
 -- A network (document 01: cabinets and cables): ends, costs, degrees, and the costs of a set of edges.
-use mathlib.Core.Bool.{Bool, false, not, cond, _||_}
+use mathlib.Core.Bool.{Bool, false, not, cond, _&&_, _||_}
 use mathlib.Core.List.{List}
 use Prim.Native.Nat.{ℕ, _+_}
 use lib.Dec.{eqb}
 use lib.ListN.{getD}
 use lib.IntN.{ℤ, pos}
+use lib.Signed.{leZ}
 use Rattle.base.specs.Fold.{sum, sumℤ, bit}
 use Rattle.graph.specs.declared.Network.{Network}
 
@@ -18,6 +19,10 @@ highEnd g e = getD (g .high) e 0
 -- the working cost of an edge
 abbrev pub costOf : Network → ℕ → ℤ
 costOf g e = getD (g .cost) e (pos 0)
+
+-- whether two costs are one
+unfoldable pub sameCost : ℤ → ℤ → Bool
+sameCost a b = leZ a b && leZ b a
 
 -- whether a vertex is present (a cabinet of the network, which has not left)
 abbrev pub here : Network → ℕ → Bool

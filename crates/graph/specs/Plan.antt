@@ -6,7 +6,7 @@ use lib.ListN.{getD}
 use lib.Signed.{leZ, ltZ}
 use Rattle.base.specs.Fold.{only}
 use Rattle.graph.specs.Network.{lowEnd, highEnd, costOf}
-use Rattle.graph.specs.Split.{partners, admissible, third, after}
+use Rattle.graph.specs.Split.{partners, admissible, stepGiven, after}
 use Rattle.graph.specs.Chain.{lastEdges, endKept, lift}
 use Rattle.graph.specs.declared.Network.{Network}
 use Rattle.graph.specs.declared.Step.{Step}
@@ -17,8 +17,7 @@ chosenVertex g = max (lowEnd g (g .reserved)) (highEnd g (g .reserved))
 
 -- of two partners the dearer is x, and of equal costs the lower number, which is the first
 unfoldable pub ordered : Network → ℕ → ℕ → ℕ → Step
-ordered g v i j =
-    cond (ltZ (costOf g i) (costOf g j)) (record { v = v; x = j; y = i }) (record { v = v; x = i; y = j })
+ordered g v i j = cond (ltZ (costOf g i) (costOf g j)) (stepGiven g v j i) (stepGiven g v i j)
 
 -- the two lowest-numbered admissible partners at the chosen vertex, the lower number first
 unfoldable pub chosenPair : Network → ℕ × ℕ
@@ -52,4 +51,4 @@ planDrop (suc n) g = planDrop n (after g (chosenStep g))
 -- and the edges that it keeps
 unfoldable pub planKept : ℕ → Network → List Bool
 planKept zero g = endKept g (chosenDrop g)
-planKept (suc n) g = let t = chosenStep g in lift (t .x) (t .y) (third g t) (planKept n (after g t))
+planKept (suc n) g = let t = chosenStep g in lift (t .x) (t .y) (t .z) (planKept n (after g t))

@@ -6,7 +6,7 @@ use lib.Dec.{eqb}
 use lib.ListN.{getD, set}
 use lib.IntN.{ℤ, pos, _-ℤ_}
 use Rattle.base.specs.Fold.{pick, without}
-use Rattle.graph.specs.Network.{touches, far}
+use Rattle.graph.specs.Network.{costOf, touches, far}
 use Rattle.graph.specs.Cut.{EveryCut, everyCut}
 use Rattle.graph.specs.declared.Network.{Network}
 use Rattle.graph.specs.declared.Step.{Step}
@@ -61,14 +61,20 @@ Admissible g v x = EveryCut 4 (splitWith g v x)
 unfoldable pub admissible : Network → ℕ → ℕ → Bool
 admissible g v x = everyCut 4 (splitWith g v x)
 
--- the partner that a step does not name
-unfoldable pub third : Network → Step → ℕ
-third g t = getD (without (t .y) (without (t .x) (partners g (t .v)))) 0 0
+-- the third partner at v, beside x and y
+unfoldable pub third : Network → ℕ → ℕ → ℕ → ℕ
+third g v x y = getD (without y (without x (partners g v))) 0 0
+
+-- the step at v with x and y, and with what it gives: z, the third partner, and its cost after the step
+abbrev pub stepGiven : Network → ℕ → ℕ → ℕ → Step
+stepGiven g v x y =
+    let z = third g v x y in
+    record { v = v; x = x; y = y; z = z; cost = costAfter (costOf g x) (costOf g y) (costOf g z) }
 
 -- the network after a step
 unfoldable pub after : Network → Step → Network
-after g t = split g (t .v) (t .x) (t .y) (third g t)
+after g t = split g (t .v) (t .x) (t .y) (t .z)
 
--- a step with the partners that it names exchanged: it splits with y, and x retires with it
+-- a step with x and y exchanged: it splits with y, and x retires with it
 abbrev pub swapped : Step → Step
-swapped t = record { v = t .v; x = t .y; y = t .x }
+swapped t = record { v = t .v; x = t .y; y = t .x; z = t .z; cost = t .cost }

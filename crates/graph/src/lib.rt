@@ -27,11 +27,13 @@ pub struct Network {
     pub remaining: usize,
 }
 
-// A step of a chain: v leaves, x and y are the partners that it names.
+// A step of a chain: v leaves, x and y retire, and z, the third partner, has this cost afterwards.
 pub struct Step {
     pub v: usize,
     pub x: usize,
     pub y: usize,
+    pub z: usize,
+    pub cost: i64,
 }
 
 // The far end, seen from v, of edge e of any network with these columns of ends.
