@@ -44,9 +44,3 @@ module _ {A : Type 0} where
       let m : at + length ys ≡ length (xs ++ ys) = omega (arith, length-append xs ys) in
       tail-put at out (over ys (take (length out - at) (drop at out)))
       ∙ rw (tail-part at out, t, d, drop-drop, m) (sym (append-assoc xs ys (drop (length (xs ++ ys)) old)))
-
-  -- the first element overwritten
-  pub set-first : (a : A) (old : List A) → 1 ≤ length old → set old 0 a ≡ over (a ∷ []) old
-  unfolding over
-  set-first a [] h = absurd (omega arith)
-  set-first a (b ∷ old) h = refl

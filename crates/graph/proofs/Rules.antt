@@ -9,7 +9,6 @@ use native.Mathlib.Decide.{ℕ-discrete}
 use lib.Dec.{eqb}
 use lib.Signed.{leZ, _≤ℤ_}
 use Rattle.base.specs.Fold.{only, among}
-use lib.IntN.{ℤ}
 use Rattle.graph.specs.Network.{costOf, sameCost, here, touches, far, lowEnd, highEnd}
 use Rattle.graph.specs.Cut.{EveryCut}
 use Rattle.graph.specs.Split.{isPartner, partners, split, Admissible, admissible, third, stepGiven, after}
@@ -25,7 +24,8 @@ use Rattle.graph.proofs.Stars.{differ-comm, Runs, forward, backward, St
 use Rattle.graph.proofs.Partners.{another, touch-ends, touches-at, touches-ends, touches-runs, runs-here}
 use Rattle.graph.proofs.Partners.{three-partners, starts-at, star, Chosen, chosen, among-without}
 use Rattle.graph.proofs.Splitting.{split-with, formed-after, sound-after}
-use Rattle.base.proofs.Integers.{eqℤ, le-test, le-is, ≤ℤ-is, is-≤ℤ, lt-isnt, not-lt}
+use Rattle.base.proofs.Integers.{≤ℤ-is, is-≤ℤ, lt-isnt, not-lt}
+use Rattle.graph.proofs.Differences.{same-cost, cost-same}
 use Rattle.graph.proofs.Endings.{dearest-at, last-of, of-last}
 
 -- ── partners ──
@@ -154,16 +154,6 @@ cond-zero false k n h = absurd (omega arith)
 not-zero : (b : Bool) (k n : ℕ) → cond b (suc k) n ≡ 0 → (b ≡ false) × (n ≡ 0)
 not-zero true k n h = absurd (omega arith)
 not-zero false k n h = (refl, h)
-
--- the test of two costs says that they are one
-same-cost : (a b : ℤ) → sameCost a b ≡ true → a ≡ b
-unfolding sameCost
-same-cost a b h =
-    eqℤ a b (omega (arith, le-is a b (and-left (leZ a b) (leZ b a) h), le-is b a (and-right (leZ a b) (leZ b a) h)))
-
-cost-same : (a : ℤ) → sameCost a a ≡ true
-unfolding sameCost
-cost-same a = let h = le-test a a (omega arith) in and-both h h
 
 -- a step that gives what is due is by rule: z is the third partner, and its cost is the one after the step
 pub given-ruled : {g : Network} → Sound g → 2 ≤ g .remaining → (t : Step) → touches g (t .v) (g .reserved) ≡ true

@@ -65,11 +65,13 @@ admissible g v x = everyCut 4 (splitWith g v x)
 unfoldable pub third : Network → ℕ → ℕ → ℕ → ℕ
 third g v x y = getD (without y (without x (partners g v))) 0 0
 
--- the step at v with x and y, and with what it gives: z, the third partner, and its cost after the step
+-- the step at v with x, y and z, with what z costs after it
+abbrev pub stepWith : Network → ℕ → ℕ → ℕ → ℕ → Step
+stepWith g v x y z = record { v = v; x = x; y = y; z = z; cost = costAfter (costOf g x) (costOf g y) (costOf g z) }
+
+-- the step at v with x and y, and with what it gives: the third partner as z, and its cost
 abbrev pub stepGiven : Network → ℕ → ℕ → ℕ → Step
-stepGiven g v x y =
-    let z = third g v x y in
-    record { v = v; x = x; y = y; z = z; cost = costAfter (costOf g x) (costOf g y) (costOf g z) }
+stepGiven g v x y = stepWith g v x y (third g v x y)
 
 -- the network after a step
 unfoldable pub after : Network → Step → Network

@@ -8,18 +8,17 @@ use lib.ListN.{getD}
 use lib.Signed.{ltZ}
 use Rattle.base.specs.Fold.{bit, only}
 use Rattle.graph.specs.Network.{costOf}
-use Rattle.graph.specs.Split.{partners, admissible, third, swapped}
+use Rattle.graph.specs.Split.{partners, admissible, third, stepWith, stepGiven}
 use Rattle.graph.specs.Plan.{chosenVertex, chosenPair, chosenStep, ordered}
 use Rattle.graph.specs.declared.Network.{Network}
-use Rattle.graph.specs.declared.Step.{Step}
 use Rattle.base.proofs.Bools.{bit-true, bit-low}
 use Rattle.graph.proofs.Partners.{another, first-others, second-others}
 use Rattle.graph.proofs.Lemma8.{lemma8}
-use Rattle.graph.proofs.Plans.{chosen-partners}
-use Rattle.graph.proofs.Rules.{partner-of}
+use Rattle.graph.proofs.Plans.{chosen-end, chosen-partners}
+use Rattle.graph.proofs.Rules.{around}
 use Rattle.rules.specs.declared.choice.Pair.{Pair}
 use Rattle.rules.specs.Running.{Running, Costed}
-use Rattle.rules.specs.Moves.{pairOf, withThird, moveOf, orderedMove}
+use Rattle.rules.specs.Pairs.{pairOf, orderedWith}
 use Rattle.rules.proofs.Trios.{Trio, third-first, third-last, costed}
 
 -- ── the pair ──
@@ -30,7 +29,7 @@ module _ {g : Network} (run : Running g) {v x y z : ℕ} (at-v : v ≡ chosenVer
       lemma8 (run .sound) (t .v-here) (o .1) (o .2) (t .held) (t .listed)
 
   -- i and j are chosen, and k is the third
-  pair-is : (i j k : ℕ) → _≡_ {A = ℕ × ℕ} (i, j) (chosenPair g) → third g (record { v = v; x = i; y = j }) ≡ k
+  pair-is : (i j k : ℕ) → _≡_ {A = ℕ × ℕ} (i, j) (chosenPair g) → third g v i j ≡ k
       → _≡_ {A = Pair} (record { v = v; low = i; high = j; z = k }) (pairOf g (chosenPair g))
   pair-is i j k e q = rw (← q, at-v) (ap (pairOf g) e)
 
@@ -45,7 +44,7 @@ module _ {g : Network} (run : Running g) {v x y z : ℕ} (at-v : v ≡ chosenVer
       let az : admissible g v z ≡ true = bit-true _ (omega (arith, two-usable, ap bit h)) in
       let s = t .at in
       pair-is y z x (rw (← at-v, t .listed, h, ay, az))
-      (third-first g _ (second-others s (t .listed)) (s .four .xz) refl)
+      (third-first g _ _ _ (second-others s (t .listed)) (s .four .xz) refl)
 
   -- the first two are
   pub chosen-first : admissible g v x ≡ true → admissible g v y ≡ true
@@ -53,7 +52,7 @@ module _ {g : Network} (run : Running g) {v x y z : ℕ} (at-v : v ≡ chosenVer
   unfolding chosenPair only
   chosen-first h k =
       let s = t .at in
-      pair-is x y z (rw (← at-v, t .listed, h, k)) (third-last g _ (first-others s (t .listed)) (s .four .yz) refl)
+      pair-is x y z (rw (← at-v, t .listed, h, k)) (third-last g _ _ _ (first-others s (t .listed)) (s .four .yz) refl)
 
   -- the second is not: the first and the third are
   pub chosen-outer : admissible g v x ≡ true → admissible g v y ≡ false
@@ -64,7 +63,7 @@ module _ {g : Network} (run : Running g) {v x y z : ℕ} (at-v : v ≡ chosenVer
       let lz = bit-low (admissible g v z) in
       let az : admissible g v z ≡ true = bit-true _ (omega (arith, two-usable, ap bit k)) in
       let s = t .at in
-      pair-is x z y (rw (← at-v, t .listed, h, k, az)) (third-first g _ (first-others s (t .listed)) (s .four .yz) refl)
+      pair-is x z y (rw (← at-v, t .listed, h, k, az)) (third-first g _ _ _ (first-others s (t .listed)) (s .four .yz) refl)
 
 -- ── the step ──
 
@@ -81,27 +80,27 @@ only-swapped p q (i ∷ is) = go (p i) (q i) refl refl (only-swapped p q is)
     go false true a b e = rw (b, a, e)
     go false false a b e = rw (b, a, e)
 
--- the partner that a step does not name is that of the step with its partners exchanged
-third-swapped : (g : Network) (t : Step) → third g (swapped t) ≡ third g t
+-- the third partner beside two is the third beside them in the other order
+third-swapped : (g : Network) (v x y : ℕ) → third g v y x ≡ third g v x y
 unfolding third
-third-swapped g t = ap (λ l. getD l 0 0) (only-swapped _ _ (partners g (t .v)))
+third-swapped g v x y = ap (λ l. getD l 0 0) (only-swapped _ _ (partners g v))
 
--- the chosen pair as a step, the lower number first
-abbrev rising : Network → Step
-rising g = record { v = chosenVertex g; x = chosenPair g .0; y = chosenPair g .1 }
-
--- ordered by cost it is the planner's step
+-- the chosen pair ordered by cost, with the third, is the planner's step
 pub pair-ordered : (g : Network)
-    → let p = pairOf g (chosenPair g) in orderedMove g (p .v) (p .low) (p .high) (p .z) ≡ moveOf g (chosenStep g)
+    → let p = pairOf g (chosenPair g) in orderedWith g (p .v) (p .low) (p .high) (p .z) ≡ chosenStep g
 unfolding ordered chosenStep
-pair-ordered g = go (ltZ (costOf g (chosenPair g .0)) (costOf g (chosenPair g .1)))
+pair-ordered g = go (chosenVertex g) (chosenPair g .0) (chosenPair g .1)
+    (ltZ (costOf g (chosenPair g .0)) (costOf g (chosenPair g .1)))
   where
-    go : (t : Bool) → let s = cond t (swapped (rising g)) (rising g) in withThird s (third g (rising g)) ≡ moveOf g s
-    go true = rw (third-swapped g (rising g))
-    go false = refl
+    go : (v i j : ℕ) (t : Bool) → let z = third g v i j in
+        cond t (stepWith g v j i z) (stepWith g v i j z) ≡ cond t (stepGiven g v j i) (stepGiven g v i j)
+    go v i j true = rw (third-swapped g v i j)
+    go v i j false = refl
 
--- the costs of the pair can be compared
-pub pair-costed : {g : Network} → Running g → Costed g (chosenPair g .0) (chosenPair g .1)
+-- the costs of the pair can be compared, and each taken off the third's
+pub pair-costed : {g : Network} → Running g → let p = pairOf g (chosenPair g) in
+    Costed g (p .low) (p .high) × Costed g (p .low) (p .z)
 pair-costed {g} run =
     let w = chosen-partners (run .sound) (run .left) in
-    costed run (partner-of g _ _ (w .i-in) .number) (partner-of g _ _ (w .j-in) .number)
+    let f = around (run .sound) (run .left) _ (chosen-end g) _ _ (w .i-in) (w .j-in) (w .i≢j) .at .four in
+    (costed run (f .x<) (f .y<), costed run (f .x<) (f .z<))

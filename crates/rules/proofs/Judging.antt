@@ -1,12 +1,14 @@
--- How the tests of a proposed step decide what is found of it.
+-- How the tests of a proposed step decide its refusal.
 use mathlib.Core.Path.{_≡_, refl, sym, _∙_, ap}
+use mathlib.Core.Logic.{_≢_}
 use mathlib.Core.Bool.{Bool, true, false, cond, or-false}
 use mathlib.Core.List.{[], _∷_}
 use Prim.Native.Nat.{ℕ}
 use lib.Dec.{eqb}
 use lib.Signed.{ltZ}
-use borrow.Author.Tests.{eq-eqb, ne-eqb}
+use borrow.Author.Tests.{eq-eqb, ne-eqb, eqb-false}
 use Rattle.base.specs.Fold.{among, without}
+use Rattle.base.specs.Refusals.{NOT-GIVEN}
 use Rattle.graph.specs.Network.{costOf, touches, far}
 use Rattle.graph.specs.Split.{partners, admissible, third}
 use Rattle.graph.specs.Chain.{stepRefusal}
@@ -16,13 +18,12 @@ use Rattle.incidence.specs.declared.partners.Partners.{Partners}
 use Rattle.base.proofs.Bools.{no-answer, eqb-is}
 use Rattle.graph.proofs.Stars.{Star, swap-first, swap-others}
 use Rattle.graph.proofs.Partners.{first-others, second-others, third-others, among-without}
-use Rattle.rules.specs.declared.judge.Judged.the-variants.{ByRule, Refused}
 use Rattle.rules.specs.declared.others.Others.the-variants.{Two, None}
 use Rattle.cuts.specs.Partnered.{Partnered}
 use Rattle.rules.specs.Running.{Running}
-use Rattle.rules.specs.Others.{othersOf}
-use Rattle.rules.specs.Judgements.{judgedBy, judgedOf}
-use Rattle.rules.proofs.Trios.{Trio}
+use Rattle.rules.specs.Others.{othersOf, otherOf}
+use Rattle.rules.specs.Judgements.{names}
+use Rattle.rules.proofs.Trios.{Trio, third-first, third-last}
 
 -- x is a partner at v, and i and j are the others
 pub record Named (g : Network) (v x i j : ℕ) : Type 0 where
@@ -95,52 +96,75 @@ partnered run held n = record {
   others = n .others;
 }
 
--- another partner that is not the first of the others is the second
-pub other-is : {g : Network} {v x y i j : ℕ} → Named g v x i j → among y (partners g v) ≡ true → (x ≡ y → ⊥)
-    → (i ≡ y → ⊥) → y ≡ j
+-- of x's others the one that is not y is the third partner
+pub third-other : {g : Network} {v x y i j : ℕ} → Named g v x i j → among y (partners g v) ≡ true → x ≢ y
+    → third g v x y ≡ otherOf i j y
 unfolding among
-other-is {g} {v} {x} {y} {i} {j} n y-in xy iy =
-    let m : among y (i ∷ j ∷ []) ≡ true =
-    ap (among y) (sym (n .others)) ∙ among-without x y (λ e. xy (sym e)) (partners g v) ∙ y-in in
-    eqb-is (rw (ne-eqb y i (λ e. iy (sym e)), or-false) at m)
+third-other {g} {v} {x} {y} {i} {j} n y-in xy = go (eqb i y) refl
+  where
+    go : (b : Bool) → eqb i y ≡ b → third g v x y ≡ cond b j i
+    go true e = third-last g v x y (n .others) (n .at .four .yz) (sym (eqb-is e))
+    go false e =
+        let m : among y (i ∷ j ∷ []) ≡ true =
+        ap (among y) (sym (n .others)) ∙ among-without x y (λ q. xy (sym q)) (partners g v) ∙ y-in in
+        third-first g v x y (n .others) (n .at .four .yz)
+        (eqb-is (rw (ne-eqb y i (λ q. eqb-false i y e (sym q)), or-false) at m))
 
 -- ── the refusals in order ──
 module _ (g : Network) (t : Step) where
-  pub no-end : touches g (t .v) (g .reserved) ≡ false → Refused 8 ≡ judgedOf g t
-  unfolding judgedOf judgedBy stepRefusal
+  pub no-end : touches g (t .v) (g .reserved) ≡ false → 8 ≡ stepRefusal g t
+  unfolding stepRefusal
   no-end h = rw h
 
-  module _ (held : touches g (t .v) (g .reserved) ≡ true) where
-    pub no-partner-x : among (t .x) (partners g (t .v)) ≡ false → Refused 9 ≡ judgedOf g t
-    unfolding judgedOf judgedBy stepRefusal
-    no-partner-x h = rw (held, h)
+  module _ {v : ℕ} (at-v : t .v ≡ v) (held : touches g v (g .reserved) ≡ true) where
+    pub no-partner-x : among (t .x) (partners g v) ≡ false → 9 ≡ stepRefusal g t
+    unfolding stepRefusal
+    no-partner-x h = rw (at-v, held, h)
 
-    module _ (x-in : among (t .x) (partners g (t .v)) ≡ true) where
-      pub no-partner-y : among (t .y) (partners g (t .v)) ≡ false → Refused 9 ≡ judgedOf g t
-      unfolding judgedOf judgedBy stepRefusal
-      no-partner-y h = rw (held, x-in, h)
+    module _ (x-in : among (t .x) (partners g v) ≡ true) where
+      pub no-partner-y : among (t .y) (partners g v) ≡ false → 9 ≡ stepRefusal g t
+      unfolding stepRefusal
+      no-partner-y h = rw (at-v, held, x-in, h)
 
-      module _ (y-in : among (t .y) (partners g (t .v)) ≡ true) where
-        pub one-partner : t .x ≡ t .y → Refused 9 ≡ judgedOf g t
-        unfolding judgedOf judgedBy stepRefusal
-        one-partner e = rw (held, x-in, y-in, eq-eqb (t .x) (t .y) e)
+      module _ (y-in : among (t .y) (partners g v) ≡ true) where
+        pub one-partner : t .x ≡ t .y → 9 ≡ stepRefusal g t
+        unfolding stepRefusal
+        one-partner e = rw (at-v, held, x-in, y-in, eq-eqb (t .x) (t .y) e)
 
-        module _ (different : t .x ≡ t .y → ⊥) where
-          pub not-admissible-x : admissible g (t .v) (t .x) ≡ false → Refused 10 ≡ judgedOf g t
-          unfolding judgedOf judgedBy stepRefusal
-          not-admissible-x h = rw (held, x-in, y-in, ne-eqb (t .x) (t .y) different, h)
+        module _ (different : t .x ≢ t .y) where
+          pub not-admissible-x : admissible g v (t .x) ≡ false → 10 ≡ stepRefusal g t
+          unfolding stepRefusal
+          not-admissible-x h = rw (at-v, held, x-in, y-in, ne-eqb (t .x) (t .y) different, h)
 
-          module _ (x-ok : admissible g (t .v) (t .x) ≡ true) where
-            pub not-admissible-y : admissible g (t .v) (t .y) ≡ false → Refused 10 ≡ judgedOf g t
-            unfolding judgedOf judgedBy stepRefusal
-            not-admissible-y h = rw (held, x-in, y-in, ne-eqb (t .x) (t .y) different, x-ok, h)
+          module _ (x-ok : admissible g v (t .x) ≡ true) where
+            pub not-admissible-y : admissible g v (t .y) ≡ false → 10 ≡ stepRefusal g t
+            unfolding stepRefusal
+            not-admissible-y h = rw (at-v, held, x-in, y-in, ne-eqb (t .x) (t .y) different, x-ok, h)
 
-            module _ (y-ok : admissible g (t .v) (t .y) ≡ true) where
-              pub x-cheaper : ltZ (costOf g (t .x)) (costOf g (t .y)) ≡ true → Refused 11 ≡ judgedOf g t
-              unfolding judgedOf judgedBy stepRefusal
-              x-cheaper h = rw (held, x-in, y-in, ne-eqb (t .x) (t .y) different, x-ok, y-ok, h)
+            module _ (y-ok : admissible g v (t .y) ≡ true) where
+              pub x-cheaper : ltZ (costOf g (t .x)) (costOf g (t .y)) ≡ true → 11 ≡ stepRefusal g t
+              unfolding stepRefusal
+              x-cheaper h = rw (at-v, held, x-in, y-in, ne-eqb (t .x) (t .y) different, x-ok, y-ok, h)
 
-              pub by-rule : ltZ (costOf g (t .x)) (costOf g (t .y)) ≡ false → {z : ℕ} → third g t ≡ z
-                  → ByRule z ≡ judgedOf g t
-              unfolding judgedOf judgedBy stepRefusal
-              by-rule h e = rw (held, x-in, y-in, ne-eqb (t .x) (t .y) different, x-ok, y-ok, h, e)
+              module _ (no-cheaper : ltZ (costOf g (t .x)) (costOf g (t .y)) ≡ false) {z : ℕ}
+                  (z-is : third g v (t .x) (t .y) ≡ z) where
+                tested : stepRefusal g t ≡ cond (names g t z) 0 NOT-GIVEN
+                unfolding stepRefusal names
+                tested =
+                    rw (
+                      at-v,
+                      held,
+                      x-in,
+                      y-in,
+                      ne-eqb (t .x) (t .y) different,
+                      x-ok,
+                      y-ok,
+                      no-cheaper,
+                      z-is,
+                    )
+
+                pub not-given : names g t z ≡ false → 17 ≡ stepRefusal g t
+                not-given n = sym (tested ∙ rw n)
+
+                pub by-rule : names g t z ≡ true → 0 ≡ stepRefusal g t
+                by-rule n = sym (tested ∙ rw n)

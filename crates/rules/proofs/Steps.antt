@@ -1,10 +1,10 @@
--- What a judged step and a judged ending come to, and the network after a step by rule.
+-- What a judged ending comes to, and the network after a step by rule.
 use mathlib.Core.Path.{_≡_, refl, sym, _∙_}
 use Prim.Native.Nat.{ℕ, zero, suc, _<_}
 use native.Mathlib.Omega.{arith}
 use lib.ListN.{getD, length-set}
 use Rattle.base.proofs.Bools.{no-answer}
-use Rattle.graph.specs.Split.{split, third, after}
+use Rattle.graph.specs.Split.{split, after}
 use Rattle.graph.specs.Chain.{stepRefusal, endRefusal, StepByRule}
 use Rattle.graph.specs.Sound.{Light}
 use Rattle.graph.specs.State.{Splittable}
@@ -12,10 +12,8 @@ use Rattle.graph.specs.declared.Network.{Network}
 use Rattle.graph.specs.declared.Step.{Step}
 use Rattle.graph.proofs.Lifting.{weight-after}
 use Rattle.graph.proofs.Rules.{step-ruled, Stepped, stepped, sound-step}
-use Rattle.rules.specs.declared.judge.Judged.the-variants as judged
 use Rattle.rules.specs.declared.ending.Ended.the-variants as ended
 use Rattle.rules.specs.Running.{Running}
-use Rattle.rules.specs.Judgements.{judgedBy, judgedOf}
 use Rattle.rules.specs.Endings.{keptWith, endedBy, endedOf}
 use Rattle.rules.proofs.Trios.{splittable}
 
@@ -42,25 +40,6 @@ module _ (g : Network) (d : ℕ) where
       go zero e h = unfold endedBy in no-answer (cc)
       go (suc j) e h = unfold endedBy in let q : k ≡ suc j = cc in (omega arith, e ∙ sym q)
 
--- ── judged steps ──
-module _ (g : Network) (t : Step) where
-  pub judged-rule : (z : ℕ) → judged.ByRule z ≡ judgedOf g t → (stepRefusal g t ≡ 0) × (third g t ≡ z)
-  unfolding judgedOf
-  judged-rule z h = go (stepRefusal g t) refl h
-    where
-      go : (k : ℕ) → stepRefusal g t ≡ k → judged.ByRule z ≡ judgedBy k (third g t)
-          → (stepRefusal g t ≡ 0) × (third g t ≡ z)
-      go zero e h = unfold judgedBy in (e, cc)
-      go (suc k) e h = unfold judgedBy in no-answer (cc)
-
-  pub judged-refused : (k : ℕ) → judged.Refused k ≡ judgedOf g t → (0 < k) × (stepRefusal g t ≡ k)
-  unfolding judgedOf
-  judged-refused k h = go (stepRefusal g t) refl h
-    where
-      go : (j : ℕ) → stepRefusal g t ≡ j → judged.Refused k ≡ judgedBy j (third g t) → (0 < k) × (stepRefusal g t ≡ k)
-      go zero e h = unfold judgedBy in no-answer (cc)
-      go (suc j) e h = unfold judgedBy in let q : k ≡ suc j = cc in (omega arith, e ∙ sym q)
-
 -- ── the network after a step by rule ──
 module _ {g : Network} (run : Running g) (more : 2 < g .remaining) (t : Step) (passed : stepRefusal g t ≡ 0) where
   rule : StepByRule g t
@@ -69,7 +48,7 @@ module _ {g : Network} (run : Running g) (more : 2 < g .remaining) (t : Step) (p
   pub step-taken : Stepped g t
   step-taken = stepped (run .sound) (run .left) t rule
 
-  pub step-splittable : Splittable g (t .x) (t .y) (third g t)
+  pub step-splittable : Splittable g (t .x) (t .y) (t .z)
   step-splittable = splittable run (step-taken .at)
 
   pub running-after : Running (after g t)

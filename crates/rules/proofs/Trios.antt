@@ -11,7 +11,6 @@ use Rattle.graph.specs.Split.{partners, third}
 use Rattle.graph.specs.State.{Splittable}
 use Rattle.incidence.specs.Partners.{firstThree}
 use Rattle.graph.specs.declared.Network.{Network}
-use Rattle.graph.specs.declared.Step.{Step}
 use Rattle.incidence.specs.declared.partners.Partners.{Partners}
 use Rattle.base.proofs.Bools.{eqb-self, eqb-no}
 use Rattle.graph.proofs.Stars.{Star}
@@ -76,13 +75,12 @@ module _ {g : Network} (run : Running g) {v x y z : ℕ} (t : Trio g v x y z) wh
   unfolding among
   second-tested = partnered y x z (rw (eqb-self y, or-true)) (second-others (t .at) (t .listed))
 
--- ── the partner that a step does not name ──
-module _ (g : Network) (t : Step) {i j : ℕ} (others : without (t .x) (partners g (t .v)) ≡ i ∷ j ∷ [])
-    (i≢j : i ≢ j) where
-  pub third-last : t .y ≡ i → third g t ≡ j
+-- ── the third partner ──
+module _ (g : Network) (v x y : ℕ) {i j : ℕ} (others : without x (partners g v) ≡ i ∷ j ∷ []) (i≢j : i ≢ j) where
+  pub third-last : y ≡ i → third g v x y ≡ j
   unfolding third only
   third-last e = rw (others, e, eqb-self i, eqb-no {a = j} {b = i} (λ q. i≢j (sym q)))
 
-  pub third-first : t .y ≡ j → third g t ≡ i
+  pub third-first : y ≡ j → third g v x y ≡ i
   unfolding third only
   third-first e = rw (others, e, eqb-self j, eqb-no i≢j)

@@ -1,16 +1,12 @@
--- What is found of a proposed step.
-use Prim.Native.Nat.{ℕ, zero, suc}
-use Rattle.graph.specs.Split.{third}
-use Rattle.graph.specs.Chain.{stepRefusal}
+-- Whether a proposed step gives what is due.
+use mathlib.Core.Bool.{Bool, _&&_}
+use Prim.Native.Nat.{ℕ}
+use lib.Dec.{eqb}
+use Rattle.graph.specs.Network.{sameCost}
+use Rattle.graph.specs.Split.{stepWith}
 use Rattle.graph.specs.declared.Network.{Network}
 use Rattle.graph.specs.declared.Step.{Step}
-use Rattle.rules.specs.declared.judge.Judged.{Judged}
-use Rattle.rules.specs.declared.judge.Judged.the-variants.{ByRule, Refused}
 
--- a refusal, or the partner that a step by rule does not name
-unfoldable pub judgedBy : ℕ → ℕ → Judged
-judgedBy zero z = ByRule z
-judgedBy (suc k) z = Refused (suc k)
-
-unfoldable pub judgedOf : Network → Step → Judged
-judgedOf g t = judgedBy (stepRefusal g t) (third g t)
+-- a step names an edge as z, and what that costs after the step
+unfoldable pub names : Network → Step → ℕ → Bool
+names g t z = eqb (t .z) z && sameCost (t .cost) (stepWith g (t .v) (t .x) (t .y) z .cost)

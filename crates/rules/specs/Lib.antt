@@ -1,5 +1,5 @@
 pub mod Running
-pub mod Moves
+pub mod Pairs
 pub mod Others
 pub mod Judgements
 pub mod Endings

@@ -1,4 +1,4 @@
--- The other two of three edges.
+-- The other two of three edges, and the other of two.
 use mathlib.Core.Bool.{cond}
 use Prim.Native.Nat.{ℕ}
 use lib.Dec.{eqb}
@@ -11,3 +11,7 @@ abbrev pub othersOf : Partners → ℕ → Others
 othersOf p x =
     cond (eqb x (p .first)) (Two (p .second) (p .third))
     (cond (eqb x (p .second)) (Two (p .first) (p .third)) (cond (eqb x (p .third)) (Two (p .first) (p .second)) None))
+
+-- of two edges the one that is not y, where y is one of them
+abbrev pub otherOf : ℕ → ℕ → ℕ → ℕ
+otherOf low high y = cond (eqb low y) high low

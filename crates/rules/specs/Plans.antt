@@ -1,32 +1,25 @@
--- The plan of a network as the planner hands it back: what is kept, the dropped edge, and the steps in columns.
-use mathlib.Core.List.{List, map}
-use Prim.Native.Nat.{ℕ, _≤_}
-use lib.ListN.{length}
-use Rattle.graph.specs.Chain.{lift}
-use Rattle.graph.specs.Plan.{planSteps, planDrop, planKept}
+-- The steps of a plan as the planner hands them back, in columns.
+use mathlib.Core.List.{List, map, _++_}
+use Prim.Native.Nat.{ℕ, _+_, _≤_}
+use lib.IntN.{ℤ}
+use lib.ListN.{length, take, drop}
+use Rattle.base.specs.Answer.{over}
+use Rattle.graph.specs.Plan.{planSteps}
 use Rattle.graph.specs.declared.Network.{Network}
-use Rattle.rules.specs.declared.planner.Plan.{Plan}
+use Rattle.graph.specs.declared.Step.{Step}
 
--- the plan of n steps and an ending
-abbrev pub planOf : ℕ → Network → Plan
-planOf n g = record { kept = record { marks = planKept n g }; dropped = planDrop n g }
+-- a column with elements written over it from a place on
+unfoldable pub overAt : {A : Type 0} → ℕ → List A → List A → List A
+overAt at xs old = take at old ++ over xs (drop at old)
 
--- a plan lifted through a step: going back keeps y, and x exactly if z is not kept
-abbrev pub liftedPlan : ℕ → ℕ → ℕ → Plan → Plan
-liftedPlan x y z p = record { kept = record { marks = lift x y z (p .kept .marks) }; dropped = p .dropped }
-
--- the steps of the plan in columns
-abbrev pub planV : ℕ → Network → List ℕ
-planV n g = map (λ t. t .v) (planSteps n g)
-
-abbrev pub planX : ℕ → Network → List ℕ
-planX n g = map (λ t. t .x) (planSteps n g)
-
-abbrev pub planY : ℕ → Network → List ℕ
-planY n g = map (λ t. t .y) (planSteps n g)
+-- a column with a part of each of the plan's n steps, from a place on
+abbrev pub planned : {A : Type 0} → (Step → A) → ℕ → Network → ℕ → List A → List A
+planned part n g at old = overAt at (map part (planSteps n g)) old
 
 -- columns that have room for n steps
-pub record StepRoom (n : ℕ) (v x y : List ℕ) : Type 0 where
+pub record StepRoom (n : ℕ) (v x y z : List ℕ) (cost : List ℤ) : Type 0 where
   pub v-room : n ≤ length v
   pub x-room : n ≤ length x
   pub y-room : n ≤ length y
+  pub z-room : n ≤ length z
+  pub cost-room : n ≤ length cost

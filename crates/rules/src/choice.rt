@@ -1,24 +1,20 @@
 // The planner's choice of a step: a pair of partners, and which of them costs more.
+use super::others::cheaper;
+use super::others::cost_after;
 use graph::Network;
+use graph::Step;
 use incidence::partners_at;
 ghost use mathlib.Core.Path.{_≡_};
+ghost use Rattle.graph.specs.Split.{stepWith};
 ghost use Rattle.graph.specs.Plan.{chosenVertex, chosenPair, chosenStep};
 ghost use Rattle.rules.specs.Running.{Running, Costed};
-ghost use Rattle.rules.specs.Moves.{pairOf, moveOf, orderedMove};
+ghost use Rattle.rules.specs.Pairs.{pairOf, orderedWith};
 
 // Two partners at v, the lower number first, and the third, z.
 pub struct Pair {
     pub v: u8,
     pub low: usize,
     pub high: usize,
-    pub z: usize,
-}
-
-// A step as it is carried out: v leaves, x and y are the partners that it names, and z is the third.
-pub struct Move {
-    pub v: u8,
-    pub x: usize,
-    pub y: usize,
     pub z: usize,
 }
 
@@ -68,24 +64,36 @@ pub fn chosen_pair(network: Network) -> Pair
     }
 }
 
-// Of partners i and j the dearer is x, and of equal costs the first; z is the third partner.
-fn ordered(network: Network, v: u8, i: usize, j: usize, z: usize) -> Move
-    requires { ⌜ Costed network i j ⌝ }
-    ensures { λ r. ⌜ r ≡ orderedMove network v i j z ⌝ }
+// The step at v with x, y and z, with what z costs after it.
+fn step_with(network: Network, v: u8, x: usize, y: usize, z: usize) -> Step
+    requires { ⌜ Costed network x z ⌝ }
+    ensures { λ r. ⌜ r ≡ stepWith network v x y z ⌝ }
 {
-    let i_cost = network.cost[i];
-    let j_cost = network.cost[j];
-    if i_cost < j_cost {
-        Move { v, x: j, y: i, z }
-    } else {
-        Move { v, x: i, y: j, z }
+    let cost = cost_after(network, x, z);
+    Step {
+        v: v as usize,
+        x,
+        y,
+        z,
+        cost,
     }
 }
 
+// Of partners i and j the dearer is x, and of equal costs the first; z is the third partner.
+fn ordered(network: Network, v: u8, i: usize, j: usize, z: usize) -> Step
+    requires { ⌜ Costed network i j × Costed network i z ⌝ }
+    ensures { λ r. ⌜ r ≡ orderedWith network v i j z ⌝ }
+{
+    if cheaper(network, i, j) {
+        return step_with(network, v, j, i, z);
+    }
+    step_with(network, v, i, j, z)
+}
+
 // The planner's step: the chosen pair, ordered by cost.
-pub fn chosen_step(network: Network) -> Move
+pub fn chosen_step(network: Network) -> Step
     requires { ⌜ Running network ⌝ }
-    ensures { λ r. ⌜ r ≡ moveOf network (chosenStep network) ⌝ }
+    ensures { λ r. ⌜ r ≡ chosenStep network ⌝ }
 {
     let pair = chosen_pair(network);
     ordered(network, pair.v, pair.low, pair.high, pair.z)

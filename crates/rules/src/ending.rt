@@ -4,7 +4,6 @@ use super::others::cheaper;
 use super::others::others_than;
 use base::EDGE_LIMIT;
 use base::NOT_DEAREST;
-use graph::Kept;
 use graph::Network;
 use incidence::Partners;
 use incidence::partners_at;
@@ -102,14 +101,4 @@ pub fn mark_two(marks: &mut [bool; EDGE_LIMIT], low: usize, high: usize)
 {
     marks[low] = true;
     marks[high] = true;
-}
-
-// The kept set of two edges.
-pub fn two_kept(low: usize, high: usize) -> Kept
-    requires { ⌜ (low < edgeLimit) × (high < edgeLimit) ⌝ }
-    ensures { λ r. ⌜ r .marks ≡ twoMarked low high ⌝ }
-{
-    let mut marks = [false; EDGE_LIMIT];
-    mark_two(&mut marks, low, high);
-    Kept { marks }
 }

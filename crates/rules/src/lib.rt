@@ -5,14 +5,11 @@ mod judge;
 mod others;
 mod planner;
 
-pub use choice::Move;
 pub use choice::Pair;
 pub use choice::chosen_pair;
 pub use choice::chosen_step;
 pub use ending::Ended;
 pub use ending::end_with;
 pub use ending::mark_two;
-pub use judge::Judged;
 pub use judge::judge_step;
-pub use planner::Plan;
 pub use planner::plan_steps;

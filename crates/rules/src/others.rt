@@ -1,11 +1,12 @@
-// The other two of three edges, and which of two edges is cheaper.
+// The other two of three edges, which of two edges is cheaper, and what the third costs after a split.
 use graph::Network;
 use incidence::Partners;
 ghost use mathlib.Core.Path.{_≡_};
+ghost use lib.IntN.{_-ℤ_};
 ghost use lib.Signed.{ltZ};
 ghost use Rattle.graph.specs.Network.{costOf};
 ghost use Rattle.rules.specs.Running.{Costed};
-ghost use Rattle.rules.specs.Others.{othersOf};
+ghost use Rattle.rules.specs.Others.{othersOf, otherOf};
 
 // The two of three edges that are not a given one, in rising order.
 pub enum Others {
@@ -29,10 +30,27 @@ pub fn others_than(partners: Partners, x: usize) -> Others
     Others::None
 }
 
+// Of two edges the one that is not y, where y is one of them.
+pub fn other_than(low: usize, high: usize, y: usize) -> usize
+    ensures { λ r. ⌜ r ≡ otherOf low high y ⌝ }
+{
+    if low == y { high } else { low }
+}
+
 // Whether x costs less than y.
 pub fn cheaper(network: Network, x: usize, y: usize) -> bool
     requires { ⌜ Costed network x y ⌝ }
     ensures { λ r. ⌜ r ≡ ltZ (costOf network x) (costOf network y) ⌝ }
 {
     network.cost[x] < network.cost[y]
+}
+
+// What z costs after splitting with x.
+pub fn cost_after(network: Network, x: usize, z: usize) -> i64
+    requires { ⌜ Costed network x z ⌝ }
+    ensures { λ r. ⌜ r ≡ costOf network z -ℤ costOf network x ⌝ }
+{
+    let z_cost = network.cost[z];
+    let x_cost = network.cost[x];
+    z_cost - x_cost
 }

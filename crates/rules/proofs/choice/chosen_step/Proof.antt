@@ -1,7 +1,7 @@
 -- `rules::choice::chosen_step` meets its contract.
 use mathlib.Core.Path.{_∙_, ap}
 use borrow.Author.Needs.{needs}
-use Rattle.rules.specs.Moves.{orderedMove}
+use Rattle.rules.specs.Pairs.{orderedWith}
 use Rattle.rules.proofs.Choices.{pair-ordered, pair-costed}
 use Rattle.rules.proofs.choice.chosen_step.Statement.{statement}
 use Rattle.rules.proofs.choice.chosen_step.Tie as tie
@@ -16,7 +16,7 @@ returns : tie.Need-returns
 returns c =
     let k = c .before in
     let g = k .before .args .network in
-    c .ordered .ensures ∙ ap (λ p. orderedMove g (p .v) (p .low) (p .high) (p .z)) (k .chosen-pair .ensures)
+    c .ordered .ensures ∙ ap (λ p. orderedWith g (p .v) (p .low) (p .high) (p .z)) (k .chosen-pair .ensures)
     ∙ pair-ordered g
 
 pub chosen-step-spec : {M : Type 1} → statement M

@@ -1,11 +1,10 @@
 -- `rules::judge::judge_step` meets its contract.
 use mathlib.Core.Logic.{inl, inr}
-use mathlib.Core.Path.{refl, _∙_, ap}
+use mathlib.Core.Path.{refl, sym}
 use borrow.Author.Needs.{needs}
 use borrow.Author.Tests.{ne-eqb}
 use Rattle.graph.specs.Network.{touches}
 use Rattle.graph.proofs.Partners.{touches-at}
-use Rattle.rules.specs.Judgements.{judgedOf}
 use Rattle.rules.proofs.Judging.{no-end}
 use Rattle.rules.proofs.judge.judge_step.Statement.{statement}
 use Rattle.rules.proofs.judge.judge_step.Tie as tie
@@ -18,13 +17,11 @@ cast-if1 c = search needs
 
 judge-at-requires : tie.Need-judge-at-requires
 judge-at-requires c κs =
-    let a = c .before .before in (a .pre, touches-at (a .args .t1) _ (a .args .t1 .reserved) (inl refl))
+    let a = c .before .before in
+    (a .pre, touches-at (a .args .t1) _ (a .args .t1 .reserved) (inl refl), sym (c .if1 .taken))
 
 returns : tie.Need-returns
-returns c =
-    let a = c .before .before .before in
-    c .judge-at .ensures
-    ∙ ap (λ v. judgedOf (a .args .t1) (record { v = v; x = a .args .x; y = a .args .y })) (c .before .if1 .taken)
+returns c = search needs
 
 element-copy-out-high : tie.Need-element-copy-out-high
 element-copy-out-high c = search needs
@@ -34,20 +31,17 @@ cast-if2 c = search needs
 
 judge-at-requires-2 : tie.Need-judge-at-requires-2
 judge-at-requires-2 c κs =
-    let a = c .before .before .before .before in (a .pre, touches-at (a .args .t1) _ (a .args .t1 .reserved) (inr refl))
+    let a = c .before .before .before .before in
+    (a .pre, touches-at (a .args .t1) _ (a .args .t1 .reserved) (inr refl), sym (c .if2 .taken))
 
 returns-2 : tie.Need-returns-2
-returns-2 c =
-    let a = c .before .before .before .before .before in
-    c .judge-at2 .ensures
-    ∙ ap (λ v. judgedOf (a .args .t1) (record { v = v; x = a .args .x; y = a .args .y })) (c .before .if2 .taken)
+returns-2 c = search needs
 
 returns-3 : tie.Need-returns-3
 unfolding touches
 returns-3 c =
     let a = c .before .before .before .before in
-    no-end (a .args .t1) (record { v = a .args .v; x = a .args .x; y = a .args .y })
-    (rw (ne-eqb _ _ (c .before .before .if1 .left), ne-eqb _ _ (c .if2 .left)))
+    no-end (a .args .t1) (a .args .step) (rw (ne-eqb _ _ (c .before .before .if1 .left), ne-eqb _ _ (c .if2 .left)))
 
 pub judge-step-spec : {M : Type 1} → statement M
 judge-step-spec =

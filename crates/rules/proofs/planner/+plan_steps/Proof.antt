@@ -1,33 +1,37 @@
 -- `rules::planner::plan_steps` meets its contract; the vertices that remain are fewer at each call.
-use mathlib.Core.Path.{_∙_, ap}
-use Prim.Native.Nat.{ℕ, _<_}
+use mathlib.Core.List.{List}
+use mathlib.Core.Path.{_≡_, sym, _∙_, ap}
+use Prim.Native.Nat.{ℕ, _+_, _-_, _≤_, _<_}
+use lib.ListN.{length, set}
 use native.Mathlib.Omega.{arith}
-use borrow.Author.Needs.{needs}
 use borrow.Fn.Kinds.{In}
 use borrow.Fn.PlainCycle.{Measures, is, falls, and}
+use Rattle.graph.specs.Plan.{planDrop, planKept}
 use Rattle.graph.specs.State.{Splittable}
+use Rattle.graph.specs.declared.Step.{Step}
 use Rattle.rules.specs.Running.{Running}
-use Rattle.rules.proofs.Planning.{plan-at-end, column-at-end, move-splittable, next-running, next-fewer}
-use Rattle.rules.proofs.Planning.{next-plan, NextColumn, next-column}
+use Rattle.rules.specs.Plans.{planned}
+use Rattle.rules.proofs.Planning.{none-left, column-at-end, chosen-splittable, chosen-below, next-running}
+use Rattle.rules.proofs.Planning.{next-fewer, next-room, room-stored, next-drop, next-kept, next-column}
 use Rattle.rules.proofs.planner.plan_steps.Reads as plan-steps
 use Rattle.rules.proofs.planner.plan_steps.Kinds as plan-steps-kinds
 use Rattle.rules.proofs.planner.+plan_steps.Lts-plan_steps as lts
 use Rattle.graph.proofs.Network.split.Reads as split-reads
+use Rattle.graph.proofs.lift_marks.Reads as lift-marks-reads
 use Rattle.rules.proofs.choice.chosen_step.Reads as chosen-step-reads
-use Rattle.rules.proofs.planner.Plan.lift.Reads as lift-reads
 use Rattle.rules.proofs.planner.plan_ending.Reads as plan-ending-reads
 use Rattle.rules.proofs.planner.put_step.Reads as put-step-reads
 use Rattle.rules.proofs.planner.+plan_steps.{statement}
 use Rattle.rules.proofs.planner.+plan_steps.Tie.{close}
 
-abbrev μ-plan-steps : Measures 3 plan-steps-kinds.ps ℕ
+abbrev μ-plan-steps : Measures 6 plan-steps-kinds.ps ℕ
 μ-plan-steps κs a = a .0 .remaining
 
-abbrev at : ℕ → In 3 plan-steps-kinds.ps
-at t = and 3 plan-steps-kinds.ps (is 3 plan-steps-kinds.ps μ-plan-steps t) plan-steps.Pre
+abbrev at : ℕ → In 6 plan-steps-kinds.ps
+at t = and 6 plan-steps-kinds.ps (is 6 plan-steps-kinds.ps μ-plan-steps t) plan-steps.Pre
 
-abbrev below : ℕ → In 3 plan-steps-kinds.ps
-below t = and 3 plan-steps-kinds.ps (falls 3 plan-steps-kinds.ps _<_ μ-plan-steps t) plan-steps.Pre
+abbrev below : ℕ → In 6 plan-steps-kinds.ps
+below t = and 6 plan-steps-kinds.ps (falls 6 plan-steps-kinds.ps _<_ μ-plan-steps t) plan-steps.Pre
 
 abbrev claims : ℕ → lts.Claims
 claims t = (
@@ -41,14 +45,14 @@ claims t = (
   split-reads.Learnt,
   below t,
   plan-steps.Post,
-  lift-reads.Asked,
-  lift-reads.Learnt,
+  lift-marks-reads.Asked,
+  lift-marks-reads.Learnt,
 )
 
 module _ (t : ℕ) where
   -- the entry, seen from where the step is chosen, and what is known there
   abbrev entry : lts.After-chosen-step (claims t) (at t) plan-steps.Post → lts.Start (claims t) (at t) plan-steps.Post
-  entry c = c .before .before .before .before .before
+  entry c = c .before .before
 
   abbrev run : (c : lts.After-chosen-step (claims t) (at t) plan-steps.Post) → Running (entry c .args .network)
   run c = entry c .pre .1 .0
@@ -56,159 +60,157 @@ module _ (t : ℕ) where
   more : (c : lts.After-chosen-step (claims t) (at t) plan-steps.Post) → 2 < entry c .args .network .remaining
   more c = c .before .if1 .left
 
-  splittable : (c : lts.After-chosen-step (claims t) (at t) plan-steps.Post) → let m = c .chosen-step .result in
-      Splittable (entry c .args .network) (m .x) (m .y) (m .z)
-  splittable c = move-splittable (run c) (more c) (c .chosen-step .result) (c .chosen-step .ensures)
+  splittable : (c : lts.After-chosen-step (claims t) (at t) plan-steps.Post) → let s = c .chosen-step .result in
+      Splittable (entry c .args .network) (s .x) (s .y) (s .z)
+  splittable c = chosen-splittable (run c) (more c) (c .chosen-step .result) (c .chosen-step .ensures)
+
+  v-below : (c : lts.After-chosen-step (claims t) (at t) plan-steps.Post)
+      → c .chosen-step .result .v < entry c .args .network .vertices
+  v-below c = chosen-below (run c) (more c) (c .chosen-step .result) (c .chosen-step .ensures)
 
   -- where the step was written and where it was chosen, seen from where the network was split
   abbrev put : lts.After-split (claims t) (at t) plan-steps.Post → lts.After-put-step (claims t) (at t) plan-steps.Post
-  put c = c .before .before .before .before .before .before .before
+  put c = c .before .before
 
   abbrev chosen : lts.After-split (claims t) (at t) plan-steps.Post
       → lts.After-chosen-step (claims t) (at t) plan-steps.Post
-  chosen c = put c .before .before .before .before
+  chosen c = put c .before .before .before .before .before .before
 
-  -- the columns, to whose rest the later steps go
-  column-v : (c : lts.After-split (claims t) (at t) plan-steps.Post) → let a = entry (chosen c) .args in
-      NextColumn (a .network) (c .split .result) (λ t. t .v) (a .v .now) (put c .put-step .last .1 .0)
-  column-v c =
+  -- a column has room for the later steps, and with these behind the step it holds them all
+  room : {A : Type 0} (c : lts.After-split (claims t) (at t) plan-steps.Post) (a : A) (old stored : List A) → let k = entry (chosen c) .args in
+      k .at + (k .network .remaining - 2) ≤ length old
+      → stored ≡ set old (k .at) a → k .at + 1 + (c .split .result .remaining - 2) ≤ length stored
+  room c a old stored =
       let k = chosen c in
-      let p = put c .put-step .ensures in
-      next-column (run k) (more k) (k .chosen-step .result) (k .chosen-step .ensures) (c .split .result)
-      (c .split .ensures)
-      (λ t. t .v) _ (ap (λ m. m .v) (k .chosen-step .ensures)) _ _ (entry k .pre .1 .1 .v-room) (p .0)
+      room-stored (run k) (more k) (k .chosen-step .result) (k .chosen-step .ensures) (c .split .result)
+      (c .split .ensures) (entry k .args .at) a old stored
 
-  column-x : (c : lts.After-split (claims t) (at t) plan-steps.Post) → let a = entry (chosen c) .args in
-      NextColumn (a .network) (c .split .result) (λ t. t .x) (a .x .now) (put c .put-step .last .1 .1 .0)
-  column-x c =
+  column : {A : Type 0} (c : lts.After-split (claims t) (at t) plan-steps.Post) (part : Step → A) (old stored out : List A)
+      → let k = entry (chosen c) .args in k .at + (k .network .remaining - 2) ≤ length old
+      → stored ≡ set old (k .at) (part (chosen c .chosen-step .result))
+      → out ≡ planned part (c .split .result .remaining - 2) (c .split .result) (k .at + 1) stored
+      → out ≡ planned part (k .network .remaining - 2) (k .network) (k .at) old
+  column c part old stored out =
       let k = chosen c in
-      let p = put c .put-step .ensures in
       next-column (run k) (more k) (k .chosen-step .result) (k .chosen-step .ensures) (c .split .result)
-      (c .split .ensures)
-      (λ t. t .x) _ (ap (λ m. m .x) (k .chosen-step .ensures)) _ _ (entry k .pre .1 .1 .x-room) (p .1 .0)
-
-  column-y : (c : lts.After-split (claims t) (at t) plan-steps.Post) → let a = entry (chosen c) .args in
-      NextColumn (a .network) (c .split .result) (λ t. t .y) (a .y .now) (put c .put-step .last .1 .1 .1 .0)
-  column-y c =
-      let k = chosen c in
-      let p = put c .put-step .ensures in
-      next-column (run k) (more k) (k .chosen-step .result) (k .chosen-step .ensures) (c .split .result)
-      (c .split .ensures)
-      (λ t. t .y) _ (ap (λ m. m .y) (k .chosen-step .ensures)) _ _ (entry k .pre .1 .1 .y-room) (p .1 .1)
+      (c .split .ensures) part (entry k .args .at) old stored out
 
   plan-ending-requires : lts.Need-plan-ending-requires (claims t) (at t) plan-steps.Post
   plan-ending-requires c κs =
-      let run = c .before .before .before .before .pre .1 .0 in
-      record { run = run; two = omega (arith, c .if1 .taken, run .left) }
+      let p = c .before .before .pre .1 in
+      (record { run = p .0; two = omega (arith, c .before .if1 .taken, p .0 .left) }, p .1)
 
   returns : lts.Need-returns (claims t) (at t) plan-steps.Post
   returns c =
-      let a = c .before .before .before .before .before .args in
-      let l = c .before .if1 .taken in (
-        c .plan-ending .ensures ∙ plan-at-end (a .network) l,
+      let a = c .before .before .before .args in
+      let g = a .network in
+      let l = c .before .before .if1 .taken in
+      let none = sym (none-left g l) in (
+        c .plan-ending .ensures .0 ∙ ap (λ n. planDrop n g) none,
         (
-          column-at-end (a .network) l (λ t. t .v) (a .v .now),
-          (column-at-end (a .network) l (λ t. t .x) (a .x .now), column-at-end (a .network) l (λ t. t .y) (a .y .now)),
+          c .plan-ending .ensures .1 ∙ ap (λ n. planKept n g) none,
+          (
+            column-at-end g l (λ t. t .v) (a .at) (a .v .now),
+            (
+              column-at-end g l (λ t. t .x) (a .at) (a .x .now),
+              (
+                column-at-end g l (λ t. t .y) (a .at) (a .y .now),
+                (
+                  column-at-end g l (λ t. t .z) (a .at) (a .z .now),
+                  column-at-end g l (λ t. t .cost) (a .at) (a .cost .now),
+                ),
+              ),
+            ),
+          ),
         ),
       )
 
   chosen-step-requires : lts.Need-chosen-step-requires (claims t) (at t) plan-steps.Post
-  chosen-step-requires c κs = c .before .before .before .before .pre .1 .0
+  chosen-step-requires c κs = c .before .pre .1 .0
 
   put-step-requires : lts.Need-put-step-requires (claims t) (at t) plan-steps.Post
   put-step-requires c κs =
-      let k = c .before .before .before in
+      let k = c .before .before .before .before .before in
       let w = splittable k in
-      let r = entry k .pre .1 .1 in
-      let m = more k in (
+      let p = entry k .pre .1 in (
+        omega (arith, v-below k, p .0 .vertex-room),
         omega (arith, w .x-edge, w .room),
         omega (arith, w .y-edge, w .room),
-        record {
-          v-room = omega (arith, r .v-room);
-          x-room = omega (arith, r .x-room);
-          y-room = omega (arith, r .y-room);
-        },
+        omega (arith, w .z-edge, w .room),
+        omega (arith, more k, p .2),
       )
 
+  cast-split : lts.Need-cast-split (claims t) (at t) plan-steps.Post
+  cast-split c =
+      let k = c .before .before .before .before .before .before .before in
+      record { fits = omega (arith, v-below k, run k .vertex-room) }
+
   split-requires : lts.Need-split-requires (claims t) (at t) plan-steps.Post
-  split-requires c κs =
-      let p = c .before .before .before .before .before .before in
-      splittable (p .before .before .before .before)
+  split-requires c κs = splittable (c .before .before .before .before .before .before .before)
 
-  sub-plan-steps : lts.Need-sub-plan-steps (claims t) (at t) plan-steps.Post
-  sub-plan-steps c = column-v c .fits
-
-  part-plan-steps-start : lts.Need-part-plan-steps-start (claims t) (at t) plan-steps.Post
-  part-plan-steps-start c = column-v c .fits
-
-  part-plan-steps-end : lts.Need-part-plan-steps-end (claims t) (at t) plan-steps.Post
-  part-plan-steps-end c = search needs
-
-  sub-plan-steps-2 : lts.Need-sub-plan-steps-2 (claims t) (at t) plan-steps.Post
-  sub-plan-steps-2 c = column-x (c .before) .fits
-
-  part-plan-steps-start-2 : lts.Need-part-plan-steps-start-2 (claims t) (at t) plan-steps.Post
-  part-plan-steps-start-2 c = column-x (c .before) .fits
-
-  part-plan-steps-end-2 : lts.Need-part-plan-steps-end-2 (claims t) (at t) plan-steps.Post
-  part-plan-steps-end-2 c = search needs
-
-  sub-plan-steps-3 : lts.Need-sub-plan-steps-3 (claims t) (at t) plan-steps.Post
-  sub-plan-steps-3 c = column-y (c .before .before) .fits
-
-  part-plan-steps-start-3 : lts.Need-part-plan-steps-start-3 (claims t) (at t) plan-steps.Post
-  part-plan-steps-start-3 c = column-y (c .before .before) .fits
-
-  part-plan-steps-end-3 : lts.Need-part-plan-steps-end-3 (claims t) (at t) plan-steps.Post
-  part-plan-steps-end-3 c = search needs
+  add-plan-steps : lts.Need-add-plan-steps (claims t) (at t) plan-steps.Post
+  add-plan-steps c =
+      let k = chosen (c .before) in record { fits = omega (arith, more k, entry k .pre .1 .2) }
 
   plan-steps-requires : lts.Need-plan-steps-requires (claims t) (at t) plan-steps.Post
   plan-steps-requires c κs =
-      let s = c .before .before .before in
-      let k = chosen s in (
-        next-fewer (run k) (more k) (k .chosen-step .result) (k .chosen-step .ensures) (s .split .result)
-            (s .split .ensures) (entry k .pre .0),
+      let s = c .before .before .before .before .before .before in
+      let k = chosen s in
+      let a = entry k .args in
+      let p = entry k .pre .1 in
+      let e = put s .put-step .ensures in
+      let step = k .chosen-step .result in (
+        next-fewer (run k) (more k) step (k .chosen-step .ensures) (s .split .result) (s .split .ensures)
+            (entry k .pre .0),
         (
-          next-running (run k) (more k) (k .chosen-step .result) (k .chosen-step .ensures) (s .split .result)
-              (s .split .ensures),
-          record { v-room = column-v s .room; x-room = column-x s .room; y-room = column-y s .room },
+          next-running (run k) (more k) step (k .chosen-step .ensures) (s .split .result) (s .split .ensures),
+          p .1,
+          next-room (run k) (more k) step (k .chosen-step .ensures) (s .split .result) (s .split .ensures) (a .at) _
+              (p .2),
+          record {
+            v-room = room s (step .v) (a .v .now) _ (p .3 .v-room) (e .0);
+            x-room = room s (step .x) (a .x .now) _ (p .3 .x-room) (e .1 .0);
+            y-room = room s (step .y) (a .y .now) _ (p .3 .y-room) (e .1 .1 .0);
+            z-room = room s (step .z) (a .z .now) _ (p .3 .z-room) (e .1 .1 .1 .0);
+            cost-room = room s (step .cost) (a .cost .now) _ (p .3 .cost-room) (e .1 .1 .1 .1);
+          },
         ),
       )
 
-  lift-requires : lts.Need-lift-requires (claims t) (at t) plan-steps.Post
-  lift-requires c κs =
-      let s = c .before .before .before .before .before .before .before .before .before .before in
-      let w = splittable (chosen s) in (
+  lift-marks-requires : lts.Need-lift-marks-requires (claims t) (at t) plan-steps.Post
+  lift-marks-requires c κs =
+      let w = splittable (chosen (c .before .before .before .before .before .before .before .before)) in (
         omega (arith, w .x-edge, w .room),
         omega (arith, w .y-edge, w .room),
         omega (arith, w .z-edge, w .room),
       )
 
-  -- where the network was split, seen from the end
-  abbrev after-split : lts.After-lift (claims t) (at t) plan-steps.Post
-      → lts.After-split (claims t) (at t) plan-steps.Post
-  after-split c = c .before .before .before .before .before .before .before .before .before .before .before
-
-  same-length : lts.Need-same-length (claims t) (at t) plan-steps.Post
-  same-length c = search needs
-
-  same-length-2 : lts.Need-same-length-2 (claims t) (at t) plan-steps.Post
-  same-length-2 c = search needs
-
-  same-length-3 : lts.Need-same-length-3 (claims t) (at t) plan-steps.Post
-  same-length-3 c = search needs
-
   returns-2 : lts.Need-returns-2 (claims t) (at t) plan-steps.Post
   returns-2 c =
-      let s = after-split c in
+      let p = c .before .before .plan-steps .ensures in
+      let s = c .before .before .before .before .before .before .before .before .before in
       let k = chosen s in
-      let p = c .before .before .before .before .before .before .before .plan-steps in (
-        next-plan (run k) (more k) (k .chosen-step .result) (k .chosen-step .ensures) (s .split .result)
-            (s .split .ensures)
-            _ _ (p .ensures .0) (c .lift .ensures),
+      let a = entry k .args in
+      let r = entry k .pre .1 .3 in
+      let e = put s .put-step .ensures in
+      let step = k .chosen-step .result in (
+        next-drop (run k) (more k) step (k .chosen-step .ensures) (s .split .result) (s .split .ensures) (p .0),
         (
-          column-v s .whole _ (p .ensures .1 .0),
-          (column-x s .whole _ (p .ensures .1 .1 .0), column-y s .whole _ (p .ensures .1 .1 .1)),
+          next-kept (run k) (more k) step (k .chosen-step .ensures) (s .split .result) (s .split .ensures) (p .1 .0)
+              (c .lift-marks .ensures),
+          (
+            column s (λ t. t .v) (a .v .now) _ _ (r .v-room) (e .0) (p .1 .1 .0),
+            (
+              column s (λ t. t .x) (a .x .now) _ _ (r .x-room) (e .1 .0) (p .1 .1 .1 .0),
+              (
+                column s (λ t. t .y) (a .y .now) _ _ (r .y-room) (e .1 .1 .0) (p .1 .1 .1 .1 .0),
+                (
+                  column s (λ t. t .z) (a .z .now) _ _ (r .z-room) (e .1 .1 .1 .0) (p .1 .1 .1 .1 .1 .0),
+                  column s (λ t. t .cost) (a .cost .now) _ _ (r .cost-room) (e .1 .1 .1 .1) (p .1 .1 .1 .1 .1 .1),
+                ),
+              ),
+            ),
+          ),
         ),
       )
 
@@ -219,19 +221,9 @@ pub +plan-steps-spec : {M : Type 1} → statement M
     (returns t)
     (chosen-step-requires t)
     (put-step-requires t)
+    (cast-split t)
     (split-requires t)
-    (sub-plan-steps t)
-    (part-plan-steps-start t)
-    (part-plan-steps-end t)
-    (sub-plan-steps-2 t)
-    (part-plan-steps-start-2 t)
-    (part-plan-steps-end-2 t)
-    (sub-plan-steps-3 t)
-    (part-plan-steps-start-3 t)
-    (part-plan-steps-end-3 t)
+    (add-plan-steps t)
     (plan-steps-requires t)
-    (lift-requires t)
-    (same-length t)
-    (same-length-2 t)
-    (same-length-3 t)
+    (lift-marks-requires t)
     (returns-2 t)

@@ -1,5 +1,5 @@
 -- `rules::planner::plan_ending` meets its contract.
-use mathlib.Core.Path.{_≡_, sym, _∙_, ap, ap₂}
+use mathlib.Core.Path.{_≡_, sym, _∙_, ap}
 use native.Mathlib.Omega.{arith}
 use borrow.Author.Needs.{needs}
 use Rattle.graph.specs.Plan.{chosenDrop, planDrop, planKept}
@@ -12,12 +12,12 @@ use Rattle.rules.proofs.planner.plan_ending.Tie as tie
 
 -- the two edges that the ending keeps
 kept : (c : tie.After-chosen-ending) → let a = c .before in let e = c .chosen-ending .result in
-    Two (a .pre) (chosenDrop (a .args .network)) (chosen-drop-passes (a .pre .run .sound) (a .pre .two)) (e .low)
+    Two (a .pre .0) (chosenDrop (a .args .network)) (chosen-drop-passes (a .pre .0 .run .sound) (a .pre .0 .two)) (e .low)
     (e .high)
 unfolding chosenEnding
 kept c =
     let a = c .before in
-    two-of (a .pre) (chosenDrop (a .args .network)) (chosen-drop-passes (a .pre .run .sound) (a .pre .two)) _ _
+    two-of (a .pre .0) (chosenDrop (a .args .network)) (chosen-drop-passes (a .pre .0 .run .sound) (a .pre .0 .two)) _ _
     (ap (λ d. d .low) (c .chosen-ending .ensures)) (ap (λ d. d .high) (c .chosen-ending .ensures))
 
 -- the edge that it drops
@@ -28,25 +28,24 @@ dropped-is c = ap (λ d. d .dropped) (c .chosen-ending .ensures)
 chosen-ending-requires : tie.Need-chosen-ending-requires
 chosen-ending-requires c κs = search needs
 
-cast-dropped : tie.Need-cast-dropped
-cast-dropped c =
-    let e = c .before in
+mark-two-requires : tie.Need-mark-two-requires
+mark-two-requires c κs =
+    let e = c .before in let w = kept e in (e .before .pre .1, w .low-below, w .high-below)
+
+cast-result : tie.Need-cast-result
+cast-result c =
+    let e = c .before .before .before in
     let a = e .before in
     let d = chosenDrop (a .args .network) in
     let below =
-    ending-ruled (a .args .network) d (chosen-drop-passes (a .pre .run .sound) (a .pre .two)) .one .number in
-    record { fits = omega (arith, below, a .pre .run .edge-room, dropped-is e) }
-
-two-kept-requires : tie.Need-two-kept-requires
-two-kept-requires c κs = let w = kept (c .before) in (w .low-below, w .high-below)
+    ending-ruled (a .args .network) d (chosen-drop-passes (a .pre .0 .run .sound) (a .pre .0 .two)) .one .number in
+    record { fits = omega (arith, below, a .pre .0 .run .edge-room, dropped-is e) }
 
 returns : tie.Need-returns
 unfolding planDrop planKept
 returns c =
-    let e = c .before .before in
-    ap₂ (λ K d. record { kept = record { marks = K }; dropped = d })
-    (c .two-kept .ensures ∙ sym (kept e .marks-are)) (dropped-is e)
+    let e = c .before .before .before in (dropped-is e, c .before .mark-two .ensures ∙ sym (kept e .marks-are))
 
 pub plan-ending-spec : {M : Type 1} → statement M
 plan-ending-spec =
-    tie.close (tie.spec chosen-ending-requires cast-dropped two-kept-requires returns)
+    tie.close (tie.spec chosen-ending-requires mark-two-requires cast-result returns)
