@@ -3,31 +3,33 @@
 use mathlib.Core.Path.{_≡_, refl, sym, _∙_, ap}
 use mathlib.Core.Bool.{Bool, true}
 use mathlib.Core.List.{List, [], _∷_, _++_, map, append-nil}
-use Prim.Native.Nat.{ℕ, zero, suc, _+_, _-_, _^_, _≤_, _<_}
+use Prim.Native.Nat.{ℕ, zero, suc, _+_, _*_, _-_, _^_, _≤_, _<_}
 use native.Mathlib.Omega.{arith}
 use lib.Dec.{leb, eqb}
 use lib.ListN.{length, drop, drop-of-length-le}
+use lib.Signed.{mag}
 use borrow.Author.Tests.{leb-true, eq-eqb, lt-ltb}
 use Rattle.base.specs.Answer.{answer, unless}
-use Rattle.frame.specs.Table.{STEP, DROPPED, lineLength}
+use Rattle.frame.specs.Table.{STEP, DROPPED, padded, bytesOf, digitsOf, lineLength}
 use Rattle.frame.specs.Line.{isLine, fieldsOf, lineOf, Fits}
-use Rattle.frame.specs.Kinds.{stepOf, ofStep, droppedOf, ofDropped}
+use Rattle.frame.specs.Kinds.{stepCostDigits, stepOf, ofStep, droppedOf, ofDropped}
 use Rattle.frame.proofs.Lines.{length-line, line-is, line-rest, fields-found, line-back, line-fits}
-use Rattle.frame.proofs.Named.{step-back, dropped-back}
+use Rattle.frame.proofs.Named.{step-back, step-found, dropped-back}
 use Rattle.chain_text.specs.Text.{chainText}
 use Rattle.chain_text.proofs.Texts.{step-fits, dropped-fits}
-use Rattle.graph.specs.Split.{split, third, after}
+use Rattle.graph.specs.Split.{split, after}
 use Rattle.graph.specs.Chain.{stepRefusal, endRefusal, endKept, lift, lifted, check, StepByRule, EndingByRule, ByRules}
-use Rattle.graph.specs.Chain.{ending, step}
+use Rattle.graph.specs.Chain.{Partner, ending, step}
 use Rattle.graph.specs.declared.Network.{Network}
 use Rattle.graph.specs.declared.Step.{Step}
+use Rattle.graph.proofs.Differences.{difference-small}
 use Rattle.graph.proofs.Rules.{ruled-step}
 use Rattle.base.proofs.Answers.{unless-answered, cond-answered}
 use Rattle.graph.proofs.Checking.{lift-keeps, check-began, passes-ruled}
 use Rattle.rules.specs.Running.{Running}
 use Rattle.claim.specs.Verdicts.{stepIn, droppedIn, leftOver, checkEnding, checkChain}
 use Rattle.claim.specs.Plans.{inFrame}
-use Rattle.rules.proofs.Steps.{running-after, step-taken, v-below}
+use Rattle.rules.proofs.Steps.{running-after, v-below}
 use Rattle.claim.proofs.Chains.{ending-kept, chain-at-more}
 
 -- ── the line of a step, and of an ending ──
@@ -75,8 +77,8 @@ bytes-meant (suc n) g t K e h =
     let a = cond-answered (isLine STEP t) _ 1 K h in
     let b =
     unless-answered (stepRefusal g s)
-    (lifted (s .x) (s .y) (third g s) (checkChain n (after g s) (drop (lineLength STEP) t))) K (a .1) in
-    let c = lift-keeps g s (checkChain n (after g s) (drop (lineLength STEP) t)) K (b .1) in
+    (lifted (s .x) (s .y) (s .z) (checkChain n (after g s) (drop (lineLength STEP) t))) K (a .1) in
+    let c = lift-keeps s (checkChain n (after g s) (drop (lineLength STEP) t)) K (b .1) in
     let m = bytes-meant n (after g s) (drop (lineLength STEP) t) (c .0) (fewer e) (c .1) in
     record {
       steps = s ∷ m .steps;
@@ -94,7 +96,7 @@ bytes-meant (suc n) g t K e h =
     text m = unfold chainText in ap (λ r. lineOf STEP (ofStep (inFrame (stepIn t))) ++ r) (m .text-is)
 
     more : {L : List Bool} (m : Meant (after g (stepIn t)) (drop (lineLength STEP) t) L) → stepRefusal g (stepIn t) ≡ 0
-        → lift (stepIn t .x) (stepIn t .y) (third g (stepIn t)) L ≡ K
+        → lift (stepIn t .x) (stepIn t .y) (stepIn t .z) L ≡ K
         → check g (stepIn t ∷ m .steps) (m .dropped) ≡ answer K
     more m p q =
         unfold check unless lifted in rw (lt-ltb 2 (g .remaining) (omega arith), p, m .passes) (ap answer q)
@@ -118,29 +120,39 @@ ending-passes g d K r l h =
     ∙ u .1
 
 -- a step's line in front of the rest of a chain
-module _ (t : Step) (fits : Fits STEP (ofStep (inFrame t))) (rest : List ℕ) where
+module _ (t : Step) (spelt : 2 * mag (t .cost) < 16 ^ stepCostDigits) (fits : Fits STEP (ofStep (inFrame t)))
+    (rest : List ℕ) where
   line-names : t ≡ stepIn (lineOf STEP (ofStep (inFrame t)) ++ rest)
   line-names =
-      ap (λ f. record { v = stepOf f .v; x = stepOf f .x; y = stepOf f .y })
-      (sym (fields-found STEP (ofStep (inFrame t)) rest fits))
+      ap (λ s. record { v = s .v; x = s .x; y = s .y; z = s .z; cost = s .cost })
+      (sym (step-found (inFrame t) spelt) ∙ ap stepOf (sym (fields-found STEP (ofStep (inFrame t)) rest fits)))
+
+-- z's new cost is one of 64 bits
+cost-spelt : {g : Network} → Running g → 2 < g .remaining → (t : Step) → StepByRule g t
+    → 2 * mag (t .cost) < 16 ^ stepCostDigits
+unfolding stepCostDigits digitsOf bytesOf padded
+cost-spelt {g} run more t r =
+    let small = difference-small g (run .light) (t .z) (t .x) (r .z-partner .number) (r .x-partner .number) in
+    rw (r .z-cost) (omega (arith, small .sfits))
 
 step-passes : {g : Network} → Running g → (t : Step) (rest : List ℕ) (L : List Bool) → 2 < g .remaining → StepByRule g t
     → checkChain (after g t .remaining - 2) (after g t) rest ≡ answer L
     → checkChain (g .remaining - 2) g (lineOf STEP (ofStep (inFrame t)) ++ rest)
-    ≡ answer (lift (t .x) (t .y) (third g t) L)
+    ≡ answer (lift (t .x) (t .y) (t .z) L)
 unfolding lifted
 step-passes {g} run t rest L more r h =
-    let passed = ruled-step g t r in
-    let w = step-taken run more t passed in
+    let passed = ruled-step (run .sound) (run .left) t r in
+    let below : {e : ℕ} → Partner g (t .v) e → e < 2 ^ 16 = λ p. omega (arith, p .number, run .edge-room) in
+    let spelt = cost-spelt run more t r in
     let fits =
-    step-fits (inFrame t) (omega (arith, v-below run more t passed, run .vertex-room))
-    (omega (arith, w .at .four .x<, run .edge-room)) (omega (arith, w .at .four .y<, run .edge-room)) in
+    step-fits (inFrame t) (omega (arith, v-below run more t passed, run .vertex-room)) (below (r .x-partner))
+    (below (r .y-partner)) (below (r .z-partner)) spelt in
     let text = lineOf STEP (ofStep (inFrame t)) ++ rest in
-    chain-at-more g text 0 more (line-is STEP (ofStep (inFrame t)) rest) t (line-names t fits rest) (lineLength STEP)
+    chain-at-more g text 0 more (line-is STEP (ofStep (inFrame t)) rest) t (line-names t spelt fits rest) (lineLength STEP)
     (after g t) passed refl (omega arith)
-    ∙ ap (λ l. lifted (t .x) (t .y) (third g t) (checkChain (after g t .remaining - 2) (after g t) l))
+    ∙ ap (λ l. lifted (t .x) (t .y) (t .z) (checkChain (after g t .remaining - 2) (after g t) l))
     (line-rest STEP (ofStep (inFrame t)) rest)
-    ∙ ap (lifted (t .x) (t .y) (third g t)) h
+    ∙ ap (lifted (t .x) (t .y) (t .z)) h
 
 pub meaning-passes : (ts : List Step) {g : Network} (d : ℕ) → Running g → (K : List Bool) → check g ts d ≡ answer K
     → checkChain (g .remaining - 2) g (chainText (map inFrame ts) d) ≡ answer K
@@ -160,4 +172,4 @@ meaning-passes (t ∷ ts) {g} d run K h =
     go (step more r rest) ih =
         let w = check-began g t ts d K h in
         step-passes run t (chainText (map inFrame ts) d) (w .later) more r
-        (ih (running-after run more t (ruled-step g t r)) (w .later) (w .later-keeps)) ∙ ap answer (w .marks-are)
+        (ih (running-after run more t (ruled-step (run .sound) (run .left) t r)) (w .later) (w .later-keeps)) ∙ ap answer (w .marks-are)

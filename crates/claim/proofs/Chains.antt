@@ -11,7 +11,7 @@ use Rattle.base.specs.Answer.{Answer, answer, refused, unless, refusalOf, numbe
 use Rattle.base.specs.Refusals.{FORM}
 use Rattle.frame.specs.Table.{STEP, DROPPED, lineLength}
 use Rattle.frame.specs.Line.{isLine}
-use Rattle.graph.specs.Split.{split, third, after}
+use Rattle.graph.specs.Split.{split, after}
 use Rattle.graph.specs.Chain.{stepRefusal, endRefusal, endKept, lift, lifted}
 use Rattle.graph.specs.declared.Network.{Network}
 use Rattle.graph.specs.declared.Step.{Step}
@@ -40,15 +40,15 @@ was-kept (refused j) numbered e l old m = absurd (omega (arith, numbered j refl)
 was-kept (answer L) numbered e l old m = ap answer (sym m)
 
 -- going back through a step
-module _ (g : Network) (t : Step) {w : Answer (List Bool)} where
-  pub lifted-refused : {k : ℕ} → w ≡ refused k → lifted (t .x) (t .y) (third g t) w ≡ refused k
+module _ (t : Step) {w : Answer (List Bool)} where
+  pub lifted-refused : {k : ℕ} → w ≡ refused k → lifted (t .x) (t .y) (t .z) w ≡ refused k
   unfolding lifted
   lifted-refused e = rw e
 
-  pub lifted-kept : {K : List Bool} {z : ℕ} → w ≡ answer K → third g t ≡ z
-      → lifted (t .x) (t .y) (third g t) w ≡ answer (lift (t .x) (t .y) z K)
+  pub lifted-kept : {K : List Bool} → w ≡ answer K
+      → lifted (t .x) (t .y) (t .z) w ≡ answer (lift (t .x) (t .y) (t .z) K)
   unfolding lifted
-  lifted-kept e q = rw (e, q)
+  lifted-kept e = rw e
 
 -- ── endings ──
 module _ (g : Network) (t : List ℕ) where
@@ -86,7 +86,7 @@ module _ (n : ℕ) (g : Network) (t : List ℕ) where
 
     pub chain-more : stepRefusal g (stepIn t) ≡ 0
         → checkChain (suc n) g t
-        ≡ lifted (stepIn t .x) (stepIn t .y) (third g (stepIn t))
+        ≡ lifted (stepIn t .x) (stepIn t .y) (stepIn t .z)
         (checkChain n (after g (stepIn t)) (drop (lineLength STEP) t))
     unfolding checkChain unless
     chain-more h = rw (is, h)
@@ -116,15 +116,15 @@ module _ (g : Network) (text : List ℕ) (at : ℕ) where
       -- h is the network after the step, and next the place behind its line
       pub chain-at-more : (next : ℕ) (h : Network) → stepRefusal g t ≡ 0 → h ≡ after g t → next ≡ at + lineLength STEP
           → checkChain (g .remaining - 2) g (drop at text)
-          ≡ lifted (t .x) (t .y) (third g t) (checkChain (h .remaining - 2) h (drop next text))
+          ≡ lifted (t .x) (t .y) (t .z) (checkChain (h .remaining - 2) h (drop next text))
       chain-at-more next h p q b =
           let s = stepIn (drop at text) in
           let later : checkChain (g .remaining - 1 - 2) (after g s) (drop (lineLength STEP) (drop at text))
           ≡ checkChain (h .remaining - 2) h (drop next text) =
           rw (q, b, drop-drop (lineLength STEP) at text, named) left in
           rw (← one-more) (chain-more (g .remaining - 1 - 2) g (drop at text) is (ap (stepRefusal g) (sym named) ∙ p))
-          ∙ ap (lifted (s .x) (s .y) (third g s)) later
-          ∙ ap (λ s. lifted (s .x) (s .y) (third g s) (checkChain (h .remaining - 2) h (drop next text))) (sym named)
+          ∙ ap (lifted (s .x) (s .y) (s .z)) later
+          ∙ ap (λ s. lifted (s .x) (s .y) (s .z) (checkChain (h .remaining - 2) h (drop next text))) (sym named)
         where
           left : let k = after g (stepIn (drop at text)) in
               checkChain (g .remaining - 1 - 2) k (drop (at + lineLength STEP) text)

@@ -9,7 +9,7 @@ use Rattle.frame.specs.Table.{lineLength, startOf, placeOf, total, widths, byte
 use Rattle.digits.specs.Hexadecimal.{digitOf, spell, valueOf, numberOf, allDigits}
 use Rattle.frame.specs.Line.{isLine, fieldsOf, valuesOf, spellAll, lineOf}
 use Rattle.frame.specs.Frames.{framesOf, linesOf}
-use Rattle.frame.specs.Kinds.{costDigits, keptDigits, unreservedDigits}
+use Rattle.frame.specs.Kinds.{costDigits, stepCostDigits, keptDigits, unreservedDigits}
 use Rattle.digits.specs.Sign.{signedOf, unsignedOf}
 use Rattle.base.specs.Limits.{verticesOk, costOk}
 use Rattle.network_text.specs.Text.{meant, checked, meaningOf, inFrames, edgesOf, readNetwork}
@@ -19,18 +19,18 @@ use Rattle.list_text.specs.Text.{listText}
 use Rattle.base.specs.Fold.{fold, pick, only, among, tabulate}
 use Rattle.kept_text.specs.Text.{keptEdges, costsText, keptText}
 use Rattle.loading.specs.Loading.{stateOf, networkOf, loadNetwork}
-use Rattle.graph.specs.Network.{endsAt, degree, touches, far, costOver, kept}
+use Rattle.graph.specs.Network.{sameCost, endsAt, degree, touches, far, costOver, kept}
 use Rattle.graph.specs.Cut.{differ, crosses, crossingsOf, everySide, somewhere, crossedBy, everyCutOf, fourEach}
 use Rattle.graph.specs.Cut.{networkRefusal}
 use Rattle.graph.specs.Split.{isPartner, partners, split, splitWith, admissible, third, after}
 use Rattle.graph.specs.Chain.{stepRefusal, lastEdges, dearest, endRefusal, marks, endKept, lift, lifted}
 use Rattle.graph.specs.Plan.{chosenVertex, ordered, chosenPair, chosenStep, dearestOf, chosenDrop, planSteps, planDrop}
 use Rattle.graph.specs.Plan.{planKept}
-use Rattle.graph.specs.Districts.{District, T, Case, plans, breaks, refuses, table, every}
-use Rattle.graph.proofs.Examples.{sameNumbers, holds, every-both, examples as meanings}
+use Rattle.graph.specs.Districts.{District, T, Numbers, Case, plans, breaks, refuses, table, every}
+use Rattle.graph.proofs.Examples.{stepOf, sameNumbers, holds, every-both, examples as meanings}
 use Rattle.network_frames.specs.Frames.{headRefusal, edgeRefusal}
 use Rattle.claim.specs.Verdicts.{checkEnding, checkChain}
-use Rattle.claim.specs.Plans.{planChain}
+use Rattle.claim.specs.Plans.{inFrame, planChain}
 use Rattle.claim.specs.Services.{Texts, acceptNetwork, keptTextOf, keptIn, checkChainText, textsOf, planText}
 
 -- the network text of a district
@@ -38,8 +38,8 @@ textOfDistrict : District → List ℕ
 textOfDistrict d = textOf
     (meant (d .vertices) (d .reserved) (map (λ e. e .0) (d .ends)) (map (λ e. e .1) (d .ends)) (d .costs))
 
-chain : List (ℕ × ℕ × ℕ) → ℕ → List ℕ
-chain ts d = chainText (map (λ t. record { v = t .0; x = t .1; y = t .2 }) ts) d
+chain : List Numbers → ℕ → List ℕ
+chain ts d = chainText (map (λ t. inFrame (stepOf t)) ts) d
 
 answers : List ℕ → Answer (List ℕ) → Bool
 answers t (refused k) = false
@@ -62,12 +62,12 @@ holdsOfTexts (breaks t d k) = refusedBy k (checkChainText (textOfDistrict T) (ch
 holdsOfTexts (refuses p k) = refusedBy k (acceptNetwork (textOfDistrict p))
 
 in-texts : every holdsOfTexts table ≡ true
-unfolding textOfDistrict chain sameNumbers answers writes refusedBy holdsOfTexts every andThen over lineLength startOf
+unfolding textOfDistrict chain stepOf sameNumbers answers writes refusedBy holdsOfTexts every andThen over lineLength startOf
     placeOf total widths bytesOf padded digitsOf kindOf digitOf spell valueOf numberOf allDigits isLine fieldsOf
-    valuesOf spellAll lineOf framesOf linesOf costDigits keptDigits unreservedDigits signedOf unsignedOf verticesOk
+    valuesOf spellAll lineOf framesOf linesOf costDigits stepCostDigits keptDigits unreservedDigits signedOf unsignedOf verticesOk
     costOk unless headRefusal edgeRefusal checked meaningOf inFrames edgesOf readNetwork edgesIn edgesText networkText
     textOf chainText listText keptEdges costsText keptText stateOf networkOf loadNetwork fold pick only among tabulate
-    endsAt degree touches far costOver differ crosses crossingsOf everySide somewhere crossedBy everyCutOf fourEach
+    sameCost endsAt degree touches far costOver differ crosses crossingsOf everySide somewhere crossedBy everyCutOf fourEach
     networkRefusal isPartner partners split splitWith admissible third after stepRefusal lastEdges dearest endRefusal
     marks endKept lift lifted chosenVertex ordered chosenPair chosenStep dearestOf chosenDrop planSteps planDrop
     planKept checkEnding checkChain planChain acceptNetwork keptTextOf keptIn checkChainText textsOf planText

@@ -6,10 +6,11 @@ use mathlib.Core.List.{List, [], _∷_, map}
 use Prim.Native.Nat.{ℕ, zero, suc, _-_, _≤_, _<_}
 use native.Mathlib.Omega.{arith}
 use native.Mathlib.Decide.{decLt}
+use lib.IntN.{ℤ}
 use lib.ListN.{length, take, drop, length-append, length-map}
 use lib.Seq.{take-at}
 use borrow.Author.Tests.{le-leb, lt-leb}
-use Rattle.base.specs.Answer.{Answer, refused, answer, andThen, given, over, filled, roomIn, over as overColumn}
+use Rattle.base.specs.Answer.{Answer, refused, answer, andThen, given, over, filled, roomIn}
 use Rattle.base.specs.Refusals.{SHORT}
 use Rattle.base.proofs.Bools.{no-answer}
 use Rattle.base.proofs.Answers.{then-refused, given-refused, given-short, given-fits, filled-refused, filled-answer}
@@ -23,8 +24,8 @@ use Rattle.graph.proofs.Backs.{passes-good}
 use Rattle.graph.proofs.Condition.{plan-checked}
 use Rattle.loading.specs.Loading.{loadNetwork, loadedOf, loadedAnswer}
 use Rattle.loading.specs.declared.Loaded.{Loaded}
-use Rattle.rules.specs.declared.planner.Plan.{Plan}
-use Rattle.rules.specs.Plans.{planOf as keptPlan, planV, planX, planY, StepRoom}
+use Rattle.rules.specs.Plans.{planned as columnPlanned, StepRoom}
+use Rattle.rules.proofs.Planning.{over-start}
 use Rattle.rules.specs.Running.{Running}
 use Rattle.claim.specs.declared.Planned.the-variants as planned
 use Rattle.claim.specs.Plans.{inFrame, planChain}
@@ -110,26 +111,24 @@ which-short {w} {due} e chain kept h = elim (decLt (length chain) (length (due .
 -- ── columns of steps ──
 
 -- a column's part, once it is written over the start of another
-column-written : (n : ℕ) (g : Network) (column : Step → ℕ) (old out : List ℕ) → n ≤ length old
-    → out ≡ overColumn (map column (planSteps n g)) old → (n ≤ length out) × (take n out ≡ map column (planSteps n g))
-unfolding overColumn
-column-written n g column old out room e =
-    let part = map column (planSteps n g) in
-    let size : length part ≡ n = length-map (planSteps n g) column ∙ steps-count n g in (
-      rw e (omega (arith, length-append part (drop (length part) old))),
-      rw e (take-at part (drop (length part) old) n size),
+column-written : {A : Type 0} (n : ℕ) (g : Network) (part : Step → A) (old out : List A) → n ≤ length old
+    → out ≡ columnPlanned part n g 0 old → (n ≤ length out) × (take n out ≡ map part (planSteps n g))
+unfolding over
+column-written n g part old out room e =
+    let xs = map part (planSteps n g) in
+    let size : length xs ≡ n = length-map (planSteps n g) part ∙ steps-count n g in
+    let written : out ≡ over xs old = e ∙ over-start xs old in (
+      rw written (omega (arith, length-append xs (drop (length xs) old))),
+      rw written (take-at xs (drop (length xs) old) n size),
     )
 
 -- steps taken apart into columns
-columns-are : (ts : List Step) → stepsOf (map (λ t. t .v) ts) (map (λ t. t .x) ts) (map (λ t. t .y) ts) ≡ map inFrame ts
+columns-are : (ts : List Step)
+    → stepsOf (map (λ t. t .v) ts) (map (λ t. t .x) ts) (map (λ t. t .y) ts) (map (λ t. t .z) ts) (map (λ t. t .cost) ts)
+    ≡ map inFrame ts
 unfolding stepsOf
 columns-are [] = refl
 columns-are (t ∷ ts) = ap (λ ss. inFrame t ∷ ss) (columns-are ts)
-
-chain-of-columns : (n : ℕ) (g : Network)
-    → chainText (stepsOf (planV n g) (planX n g) (planY n g)) (planDrop n g) ≡ planChain n g
-unfolding planChain
-chain-of-columns n g = ap (λ ss. chainText ss (planDrop n g)) (columns-are (planSteps n g))
 
 -- ── the plan of an accepted network ──
 module _ (a : Answer Network) (chain kept : List ℕ) where
@@ -148,21 +147,25 @@ unfolding planGiven
 plan-loaded t chain kept e = ap (λ a. planIn a chain kept) (accept-loaded t e)
 
 -- the plan's steps stand at the start of the columns that they were written into
-pub plan-ready : {g : Network} → Running g → (p : Plan) → p ≡ keptPlan (g .remaining - 2) g
-    → (oldV oldX oldY v x y : List ℕ) → let n = g .remaining - 2 in StepRoom n oldV oldX oldY
-    → v ≡ overColumn (planV n g) oldV → x ≡ overColumn (planX n g) oldX → y ≡ overColumn (planY n g) oldY
-    → Planning g p v x y
-plan-ready {g} run p q oldV oldX oldY v x y room ev ex ey =
-    let n = g .remaining - 2 in
-    let good = passes-good (planSteps n g) (run .sound) (planDrop n g) (planKept n g)
-    (plan-checked n (run .sound) (omega (arith, run .left))) in
-    let cv = column-written n g (λ t. t .v) oldV v (room .v-room) ev in
-    let cx = column-written n g (λ t. t .x) oldX x (room .x-room) ex in
-    let cy = column-written n g (λ t. t .y) oldY y (room .y-room) ey in
-    record {
-      keeping = rw q (running-keeping run (planKept n g) (good .sized));
-      several = run .left;
-      vertex-room = running-few run;
-      column-room = record { v-room = cv .0; x-room = cx .0; y-room = cy .0 };
-      chain-is = rw (cv .1, cx .1, cy .1, q) (chain-of-columns n g);
-    }
+module _ {g : Network} (run : Running g) (v₀ x₀ y₀ z₀ v x y z : List ℕ) (cost₀ cost : List ℤ) where
+  pub plan-ready : let n = g .remaining - 2 in StepRoom n v₀ x₀ y₀ z₀ cost₀ → (K : List Bool) → K ≡ planKept n g
+      → (d : ℕ) → d ≡ planDrop n g → v ≡ columnPlanned (λ t. t .v) n g 0 v₀ → x ≡ columnPlanned (λ t. t .x) n g 0 x₀
+      → y ≡ columnPlanned (λ t. t .y) n g 0 y₀ → z ≡ columnPlanned (λ t. t .z) n g 0 z₀
+      → cost ≡ columnPlanned (λ t. t .cost) n g 0 cost₀ → Planning g K d v x y z cost
+  unfolding planChain
+  plan-ready room K q d p ev ex ey ez ec =
+      let n = g .remaining - 2 in
+      let good = passes-good (planSteps n g) (run .sound) (planDrop n g) (planKept n g)
+      (plan-checked n (run .sound) (omega (arith, run .left))) in
+      let cv = column-written n g (λ t. t .v) v₀ v (room .v-room) ev in
+      let cx = column-written n g (λ t. t .x) x₀ x (room .x-room) ex in
+      let cy = column-written n g (λ t. t .y) y₀ y (room .y-room) ey in
+      let cz = column-written n g (λ t. t .z) z₀ z (room .z-room) ez in
+      let ck = column-written n g (λ t. t .cost) cost₀ cost (room .cost-room) ec in
+      record {
+        keeping = rw q (running-keeping run (planKept n g) (good .sized));
+        several = run .left;
+        vertex-room = running-few run;
+        column-room = record { v-room = cv .0; x-room = cx .0; y-room = cy .0; z-room = cz .0; cost-room = ck .0 };
+        chain-is = rw (cv .1, cx .1, cy .1, cz .1, ck .1, p) (ap (λ ss. chainText ss (planDrop n g)) (columns-are (planSteps n g)));
+      }

@@ -1,4 +1,4 @@
--- Which refusals a proposed chain meets: 1 and 8 to 12, so that 13 is none of them.
+-- Which refusals a proposed chain meets: 1, 8 to 12 and 17, so that 13 is none of them.
 use mathlib.Core.Path.{_≡_, refl}
 use mathlib.Core.Logic.{_⊎_, inl, inr, ⊎-elim}
 use mathlib.Core.Bool.{Bool}
@@ -13,7 +13,7 @@ use Rattle.base.specs.Refusals.{FORM}
 use Rattle.base.proofs.Numbered.{Meeting, answered, unless-meeting, cond-meeting}
 use Rattle.frame.specs.Table.{STEP, DROPPED, lineLength}
 use Rattle.frame.specs.Line.{isLine}
-use Rattle.graph.specs.Split.{third, after}
+use Rattle.graph.specs.Split.{after}
 use Rattle.graph.specs.Chain.{stepRefusal, endRefusal, endKept, lifted}
 use Rattle.graph.specs.declared.Network.{Network}
 use Rattle.graph.specs.declared.Step.{Step}
@@ -23,13 +23,14 @@ use Rattle.claim.specs.Services.{acceptNetwork, keptIn, checkChainText}
 
 -- a refusal of a proposed chain: of its form, or of a step or an ending
 abbrev pub OfChain : ℕ → Type 0
-OfChain k = (k ≡ 1) ⊎ ((8 ≤ k) × (k ≤ 12))
+OfChain k = (k ≡ 1) ⊎ ((8 ≤ k) × (k ≤ 12)) ⊎ (k ≡ 17)
 
 step-of-chain : (g : Network) (t : Step) → 0 < stepRefusal g t → OfChain (stepRefusal g t)
-step-of-chain g t h = ⊎-elim (λ z. absurd (omega arith)) (λ w. inr (w .0, omega (arith, w .1))) (step-number g t)
+step-of-chain g t h = ⊎-elim (λ z. absurd (omega arith))
+    (λ w. ⊎-elim (λ w. inr (inl (w .0, omega (arith, w .1)))) (λ e. inr (inr e)) w) (step-number g t)
 
 ending-of-chain : (g : Network) (d : ℕ) → 0 < endRefusal g d → OfChain (endRefusal g d)
-ending-of-chain g d h = ⊎-elim (λ z. absurd (omega arith)) (λ e. inr (omega arith, omega arith)) (ending-number g d)
+ending-of-chain g d h = ⊎-elim (λ z. absurd (omega arith)) (λ e. inr (inl (omega arith, omega arith))) (ending-number g d)
 
 lifted-meeting : (x y z : ℕ) (w : Answer (List Bool)) → Meeting OfChain w → Meeting OfChain (lifted x y z w)
 unfolding lifted
@@ -51,11 +52,12 @@ chain-meeting (suc n) g t =
     let later = checkChain n (after g s) (drop (lineLength STEP) t) in
     cond-meeting (isLine STEP t) _ FORM (inl refl)
     (unless-meeting (stepRefusal g s) _ (step-of-chain g s)
-    (lifted-meeting (s .x) (s .y) (third g s) later (chain-meeting n (after g s) (drop (lineLength STEP) t))))
+    (lifted-meeting (s .x) (s .y) (s .z) later (chain-meeting n (after g s) (drop (lineLength STEP) t))))
 
 -- so every refusal has a number
 pub chain-numbered : (n : ℕ) (g : Network) (t : List ℕ) (k : ℕ) → checkChain n g t ≡ refused k → 0 < k
-chain-numbered n g t k e = ⊎-elim (λ q. omega arith) (λ w. omega arith) (chain-meeting n g t .number k e)
+chain-numbered n g t k e =
+    ⊎-elim (λ q. omega arith) (λ w. ⊎-elim (λ w. omega arith) (λ q. omega arith) w) (chain-meeting n g t .number k e)
 
 pub chain-meets : (t chain : List ℕ) (g : Network) (k : ℕ) → acceptNetwork t ≡ answer g
     → checkChainText t chain ≡ refusedBy k → OfChain k

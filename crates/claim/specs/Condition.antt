@@ -107,10 +107,10 @@ pub record Claim : Type 0 where
   -- what is accepted is accepted with any other edge in its head's reserved field
   pub any-reserved : {t : List ℕ} {g : Network} → Accepted t g → (r : ℕ) → r < g .edges
       → Accepted (reservingText r t) (reserving r g)
-  -- 'A chain passes when its check over an accepted network succeeds or gives 13.' 'Any bytes may be proposed as a
-  -- chain. They keep the rules over an accepted network exactly when they are a chain text with nothing left over, each
-  -- frame 03 is a step by rule on the network that the frames before it leave .., with v an end of the reserved cable
-  -- there, and the frame 04 names a dearest of the last three that aren't reserved.'
+  -- 'A chain passes when its check over an accepted network succeeds or gives 13.' 'They keep the rules over an accepted
+  -- network exactly when they are a chain text with nothing left over, each frame 03 is a step by rule on the network
+  -- that the frames before it leave .., with v an end of the reserved cable there', z and its new cost as the step gives
+  -- them, 'and the frame 04 names a dearest of the last three that aren't reserved.'
   pub passes : {t : List ℕ} {g : Network} → Accepted t g → (chain lent : List ℕ)
       → Passes (chainReply t chain lent) ↔ ((K : List Bool) × Ruled g chain K)
   -- 'The kept cables are what going back from the ending gives, and the kept text lists
@@ -147,10 +147,10 @@ pub record Claim : Type 0 where
       → (chain lent : List ℕ) → (chainReply t chain lent ≡ Refused k) × (planReply t chain lent ≡ plan.Refused k)
   -- 'No refusal is given but under its condition': a network text meets 1 to 7 alone
   pub network-refusals : (t : List ℕ) (k : ℕ) → acceptNetwork t ≡ refused k → (1 ≤ k) × (k ≤ 7)
-  -- and a chain over an accepted network 1 and 8 to 12 alone, so that 13 comes from a lent buffer and from nothing else
+  -- and a chain over an accepted network 1, 8 to 12 and 17 alone, so that 13 comes from a lent buffer and nothing else
   pub chain-refusals : {t : List ℕ} {g : Network} → Accepted t g → (chain : List ℕ) (k : ℕ)
       → checkChainText t chain ≡ refused k
-      → (k ≡ 1) ⊎ ((8 ≤ k) × (k ≤ 12))
+      → (k ≡ 1) ⊎ ((8 ≤ k) × (k ≤ 12)) ⊎ (k ≡ 17)
   -- 'A working cost is never outside' 512 times the limit of a cost, on either side, wherever steps by rule lead
   pub working : {t : List ℕ} {g : Network} → Accepted t g → {ts : List Step} {h : Network} → Leads g ts h
       → (e : ℕ) → e < h .edges → natAbs (costOf h e) ≤ edgeLimit * costLimit

@@ -9,7 +9,7 @@ use Rattle.graph.specs.declared.Step.{Step}
 
 -- a step as its frame names it
 abbrev pub inFrame : Step → kinds.Step
-inFrame t = record { v = t .v; x = t .x; y = t .y }
+inFrame t = record { v = t .v; x = t .x; y = t .y; z = t .z; cost = t .cost }
 
 -- the chain text of n steps of the plan and its ending
 unfoldable pub planChain : ℕ → Network → List ℕ

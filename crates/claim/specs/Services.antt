@@ -3,6 +3,7 @@ use mathlib.Core.Bool.{Bool, _&&_}
 use mathlib.Core.List.{List}
 use mathlib.Core.Path.{_≡_}
 use Prim.Native.Nat.{ℕ, _-_, _≤_}
+use lib.IntN.{ℤ}
 use lib.ListN.{length, take}
 use Rattle.base.specs.Answer.{Answer, refused, answer, andThen, given, filled, roomIn, replyOf, after, unless}
 use Rattle.base.specs.declared.reply.Reply.{Reply}
@@ -20,7 +21,6 @@ use Rattle.claim.specs.declared.Planned.{Planned}
 use Rattle.claim.specs.declared.Planned.the-variants as planned
 use Rattle.claim.specs.Verdicts.{checkChain}
 use Rattle.claim.specs.Plans.{planChain}
-use Rattle.rules.specs.declared.planner.Plan.{Plan}
 use Rattle.rules.specs.Running.{Keeping}
 use Rattle.rules.specs.Plans.{StepRoom}
 
@@ -108,11 +108,11 @@ plannedChain network chain kept = filled (λ t. t .chain) (planGiven network cha
 abbrev pub plannedKept : List ℕ → List ℕ → List ℕ → List ℕ
 plannedKept network chain kept = filled (λ t. t .kept) (planGiven network chain kept) kept
 
--- a plan whose steps stand at the start of columns, and whose marks can be written
-pub record Planning (g : Network) (p : Plan) (v x y : List ℕ) : Type 0 where
-  pub keeping : Keeping g (p .kept .marks)
+-- a plan whose steps stand at the start of columns, whose marks can be written, and whose ending drops d
+pub record Planning (g : Network) (K : List Bool) (d : ℕ) (v x y z : List ℕ) (cost : List ℤ) : Type 0 where
+  pub keeping : Keeping g K
   pub several : 2 ≤ g .remaining
   pub vertex-room : g .remaining ≤ vertexLimit
-  pub column-room : StepRoom (g .remaining - 2) v x y
+  pub column-room : StepRoom (g .remaining - 2) v x y z cost
   pub chain-is : let n = g .remaining - 2 in
-      chainText (stepsOf (take n v) (take n x) (take n y)) (p .dropped) ≡ planChain n g
+      chainText (stepsOf (take n v) (take n x) (take n y) (take n z) (take n cost)) d ≡ planChain n g

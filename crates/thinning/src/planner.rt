@@ -1,17 +1,18 @@
 // The planner over texts.
 use super::kept::put_kept;
 use super::network::accept;
+use base::EDGE_LIMIT;
 use base::FEWEST_VERTICES;
 use base::SHORT;
 use base::STEP_LIMIT;
 use chain_text::chain_length;
 use chain_text::put_chain;
 use claim::Planned;
+use graph::Kept;
 use graph::Network;
 use kept_text::kept_length;
 use loading::Loaded;
 use loading::load;
-use rules::Plan;
 use rules::plan_steps;
 ghost use mathlib.Core.Path.{_≡_};
 ghost use Prim.Native.Nat.{_-_};
@@ -24,26 +25,27 @@ ghost use Rattle.claim.specs.Services.{plannedKept, Planning};
 // Writes the texts of a plan whose steps stand in columns, if both buffers have room.
 fn hand_over(
     network: Network,
-    plan: Plan,
+    marked: Kept,
+    dropped: u16,
     v: &[u16],
     x: &[u16],
     y: &[u16],
+    z: &[u16],
+    cost: &[i64],
     chain: &mut [u8],
     kept: &mut [u8],
 ) -> Planned
-    requires { ⌜ Planning network plan (now v) (now x) (now y) ⌝ }
+    requires { ⌜ Planning network (marked .marks) dropped (now v) (now x) (now y) (now z) (now cost) ⌝ }
     ensures reply { λ r. ⌜ r ≡
-        plannedOf (textsGiven network (plan .kept .marks) (now (chain .entry)) (now (kept .entry))) ⌝ }
+        plannedOf (textsGiven network (marked .marks) (now (chain .entry)) (now (kept .entry))) ⌝ }
     ensures chain { λ r. ⌜ now (chain .exit) ≡
-        filled (λ t. t .chain) (textsGiven network (plan .kept .marks) (now (chain .entry)) (now (kept .entry)))
+        filled (λ t. t .chain) (textsGiven network (marked .marks) (now (chain .entry)) (now (kept .entry)))
         (now (chain .entry)) ⌝ }
     ensures kept { λ r. ⌜ now (kept .exit) ≡
-        filled (λ t. t .kept) (textsGiven network (plan .kept .marks) (now (chain .entry)) (now (kept .entry)))
+        filled (λ t. t .kept) (textsGiven network (marked .marks) (now (chain .entry)) (now (kept .entry)))
         (now (kept .entry)) ⌝ }
 {
     let edges = network.edges;
-    let dropped = plan.dropped;
-    let marked = plan.kept;
     let marks = marked.marks;
     let vertices = network.remaining;
     let steps = vertices - FEWEST_VERTICES;
@@ -55,7 +57,7 @@ fn hand_over(
     if kept.len() < kept_due {
         return Planned::Refused(SHORT);
     }
-    put_chain(&v[..steps], &x[..steps], &y[..steps], dropped, chain);
+    put_chain(&v[..steps], &x[..steps], &y[..steps], &z[..steps], &cost[..steps], dropped, chain);
     put_kept(network, marked, kept);
     Planned::Written {
         chain: chain_due,
@@ -85,8 +87,11 @@ pub fn plan_loaded(loaded: Loaded, chain: &mut [u8], kept: &mut [u8]) -> Planned
     let mut v = [0u16; STEP_LIMIT];
     let mut x = [0u16; STEP_LIMIT];
     let mut y = [0u16; STEP_LIMIT];
-    let plan = plan_steps(state, &mut v, &mut x, &mut y);
-    hand_over(state, plan, &v, &x, &y, chain, kept)
+    let mut z = [0u16; STEP_LIMIT];
+    let mut cost = [0i64; STEP_LIMIT];
+    let mut marks = [false; EDGE_LIMIT];
+    let dropped = plan_steps(state, &mut marks, 0, &mut v, &mut x, &mut y, &mut z, &mut cost);
+    hand_over(state, Kept { marks }, dropped, &v, &x, &y, &z, &cost, chain, kept)
 }
 
 // Plans a network text: writes the chain text and the kept text, or
