@@ -145,7 +145,11 @@ pub fn read_chain(
     let ReadChain::Read { steps, dropped: _ } = reply else {
         return reply;
     };
-    if v.len() < steps || x.len() < steps || y.len() < steps || z.len() < steps || cost.len() < steps
+    if v.len() < steps
+        || x.len() < steps
+        || y.len() < steps
+        || z.len() < steps
+        || cost.len() < steps
     {
         return ReadChain::Refused(SHORT);
     }
