@@ -1,7 +1,7 @@
 -- What reading a chain text into lent columns comes to, by what the working columns hold.
 -- Assumes nothing.
 use mathlib.Core.Path.{_≡_, refl, sym, _∙_}
-use mathlib.Core.Bool.{true, false}
+use mathlib.Core.Bool.{true}
 use mathlib.Core.List.{List}
 use Prim.Native.Nat.{ℕ, _≤_}
 use lib.ListN.{length, take}
@@ -14,7 +14,7 @@ use Rattle.base.proofs.Held.{Starts, held-starts}
 use Rattle.chain_text.specs.Columns.{Columns, columns, Each}
 use Rattle.chain_text.specs.Text.{Meaning, inColumns, readChain, readReply, roomFor, readGiven, ReadInto}
 use Rattle.chain_text.specs.Working.{Room, ChainRead}
-use Rattle.chain_text.proofs.Columns.{each, both-each, true-every, not-every, steps-even}
+use Rattle.chain_text.proofs.Columns.{both-each, true-every, not-every, steps-even}
 use Rattle.chain_text.specs.declared.chain.ReadChain.{ReadChain}
 use Rattle.chain_text.specs.declared.chain.ReadChain.the-variants.{Refused, Read}
 

@@ -4,6 +4,10 @@ use Rattle.host_texts.proofs.Numbers.{chain-unread, chain-read}
 use Rattle.host_texts.proofs.chains.thinning_read_chain.Statement.{statement}
 use Rattle.host_texts.proofs.chains.thinning_read_chain.Tie as tie
 
+-- the place where the text is read, from the one where its reply is taken apart
+abbrev at-read : tie.After-cost → tie.After-read-chain
+at-read c = c .before .before .before .before .before .before .before .before .before
+
 read-chain-requires : tie.Need-read-chain-requires
 read-chain-requires c κs = search needs
 
@@ -33,7 +37,7 @@ same-length-5 c = search needs
 
 returns : tie.Need-returns
 returns c =
-    let e = c .before .before .before .before .before .before .before .before .before .before .before .before .read-chain .ensures in
+    let e = at-read (c .before .before .before) .read-chain .ensures in
     let f = e .fills in
     let n = chain-unread _ _ (c .before .number .given .1) (e .replies) _ in
     (n .0, (f .v, (f .x, (f .y, (f .z, (f .cost, n .1))))))
@@ -55,7 +59,7 @@ same-length-10 c = search needs
 
 returns-2 : tie.Need-returns-2
 returns-2 c =
-    let e = c .before .before .before .before .before .before .before .before .before .before .before .before .read-chain .ensures in
+    let e = at-read (c .before .before .before) .read-chain .ensures in
     let f = e .fills in
     let n = chain-read _ _ _ (c .before .edge .given .1) (e .replies) _ in
     (n .0, (f .v, (f .x, (f .y, (f .z, (f .cost, n .1))))))
