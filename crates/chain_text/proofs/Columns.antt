@@ -1,12 +1,12 @@
--- Steps in columns: their text from a place on, and the text that is due from columns.
+-- Steps in columns: each column by itself, the text from a place on, and the text that is due from columns.
 -- Assumes nothing.
 use mathlib.Core.Path.{_≡_, refl, sym, _∙_, ap}
 use mathlib.Core.Bool.{Bool, true, false, _&&_}
-use mathlib.Core.List.{List, [], _∷_, _++_, map, append-nil}
+use mathlib.Core.List.{List, [], _∷_, _++_, append-nil}
 use Prim.Native.Nat.{ℕ, _+_, _-_, _≤_, _<_}
 use native.Mathlib.Omega.{arith}
 use native.Mathlib.Numerals.{add-one}
-use lib.Dec.{eqb}
+use lib.IntN.{ℤ, pos}
 use lib.ListN.{length, drop, drop-of-length-le, length-map}
 use lib.Seq.{drop-cons}
 use borrow.Author.Tests.{eq-eqb, eqb-true}
@@ -19,109 +19,170 @@ use Rattle.frame.specs.Line.{lineOf}
 use Rattle.frame.specs.Kinds.{ofStep, ofDropped}
 use Rattle.frame.specs.declared.kinds.Step.{Step}
 use Rattle.base.proofs.Writing.{Written}
-use Rattle.chain_text.specs.Text.{chainText, chainLength, evenly, stepsOf, writeChain}
-use Rattle.chain_text.specs.Columns.{stepAt}
+use Rattle.chain_text.specs.Columns.{Columns, columns, columnsOf, Each, every}
+use Rattle.chain_text.specs.Text.{chainText, chainLength, Even, evenly, stepsOf, stepsAcross, writeChain}
+use Rattle.chain_text.specs.Working.{stepAt}
 use Rattle.chain_text.proofs.Lengths.{length-chain}
 
--- the text of the steps from a place on, and of the ending
-abbrev pub textFrom : List ℕ → List ℕ → List ℕ → ℕ → ℕ → List ℕ
-textFrom v x y d i = chainText (stepsOf (drop i v) (drop i x) (drop i y)) d
+-- ── each column by itself ──
 
--- columns that are equally long
-module _ (v x y : List ℕ) (p : length x ≡ length v) (q : length y ≡ length v) (d i : ℕ) where
-  text-next : i < length v → textFrom v x y d i ≡ lineOf STEP (ofStep (stepAt v x y i)) ++ textFrom v x y d (i + 1)
-  unfolding chainText stepsOf
-  text-next h = rw (add-one, drop-cons v i 0, drop-cons x i 0 (omega arith), drop-cons y i 0 (omega arith))
+-- a law of one column is one of each, from one fact of it or from two
+pub each : {P Q : (A : Type 0) → (Columns → List A) → Type 0}
+    → ((A : Type 0) (part : Columns → List A) → P A part → Q A part) → Each P → Each Q
+each f e =
+    record {
+      v = f _ _ (e .v);
+      x = f _ _ (e .x);
+      y = f _ _ (e .y);
+      z = f _ _ (e .z);
+      cost = f _ _ (e .cost);
+    }
 
-  text-end : length v ≤ i → textFrom v x y d i ≡ lineOf DROPPED (ofDropped (record { edge = d })) ++ []
-  unfolding chainText stepsOf
-  text-end h = rw (drop-of-length-le v h, append-nil)
+pub both-each : {P Q R : (A : Type 0) → (Columns → List A) → Type 0}
+    → ((A : Type 0) (part : Columns → List A) → P A part → Q A part → R A part) → Each P → Each Q → Each R
+both-each f p q =
+    record {
+      v = f _ _ (p .v) (q .v);
+      x = f _ _ (p .x) (q .x);
+      y = f _ _ (p .y) (q .y);
+      z = f _ _ (p .z) (q .z);
+      cost = f _ _ (p .cost) (q .cost);
+    }
 
-  -- the line of the step at a place, or of the ending, is left to write
-  module _ {whole old out : List ℕ} {at : ℕ} (w : Written whole (textFrom v x y d i) old out at) where
-    pub step-left : i < length v
-        → Written whole (lineOf STEP (ofStep (stepAt v x y i)) ++ textFrom v x y d (i + 1)) old out at
-    step-left h = rw (text-next h) at w
-
-    pub ending-left : length v ≤ i → Written whole (lineOf DROPPED (ofDropped (record { edge = d })) ++ []) old out at
-    ending-left h = rw (text-end h) at w
-
--- columns with k steps each
-pub record Even (k : ℕ) (v x y : List ℕ) : Type 0 where
-  pub in-v : length v ≡ k
-  pub in-x : length x ≡ k
-  pub in-y : length y ≡ k
-
-module _ {k : ℕ} {v x y : List ℕ} where
-  pub even-columns : evenly k v x y ≡ true → Even k v x y
-  unfolding evenly
-  even-columns e =
-      let b = eqb (length x) k && eqb (length y) k in
-      let later = and-right (eqb (length v) k) b e in
+-- a test passes of each column where every column passes it, and of some it fails where not every one does
+module _ (f : (A : Type 0) → (Columns → List A) → Bool) where
+  pub every-true : every f ≡ true → Each (λ A part. f A part ≡ true)
+  unfolding every
+  every-true e =
+      let v = f ℕ (λ c. c .v) in
+      let x = f ℕ (λ c. c .x) in
+      let y = f ℕ (λ c. c .y) in
+      let z = f ℕ (λ c. c .z) in
+      let cost = f ℤ (λ c. c .cost) in
+      let from-x = and-right v (x && (y && (z && cost))) e in
+      let from-y = and-right x (y && (z && cost)) from-x in
+      let from-z = and-right y (z && cost) from-y in
       record {
-        in-v = eqb-true _ _ (and-left (eqb (length v) k) b e);
-        in-x = eqb-true _ _ (and-left (eqb (length x) k) (eqb (length y) k) later);
-        in-y = eqb-true _ _ (and-right (eqb (length x) k) (eqb (length y) k) later);
+        v = and-left v (x && (y && (z && cost))) e;
+        x = and-left x (y && (z && cost)) from-x;
+        y = and-left y (z && cost) from-y;
+        z = and-left z cost from-z;
+        cost = and-right z cost from-z;
       }
 
-  pub columns-even : Even k v x y → evenly k v x y ≡ true
-  unfolding evenly
-  columns-even h = rw (eq-eqb _ _ (h .in-v), eq-eqb _ _ (h .in-x), eq-eqb _ _ (h .in-y))
+  pub true-every : Each (λ A part. f A part ≡ true) → every f ≡ true
+  unfolding every
+  true-every e = rw (e .v, e .x, e .y, e .z, e .cost)
 
-  pub columns-uneven : (Even k v x y → ⊥) → evenly k v x y ≡ false
-  columns-uneven n = go (evenly k v x y) refl
+  pub not-every : (Each (λ A part. f A part ≡ true) → ⊥) → every f ≡ false
+  not-every n = go (every f) refl
     where
-      go : (b : Bool) → evenly k v x y ≡ b → evenly k v x y ≡ false
-      go true e = absurd (n (even-columns e))
+      go : (b : Bool) → every f ≡ b → every f ≡ false
+      go true e = absurd (n (every-true e))
       go false e = e
 
+-- as many elements as steps stand in each column of steps
+pub steps-even : (ss : List Step) {k : ℕ} → length ss ≡ k → Even k (columnsOf ss)
+steps-even ss e =
+    record {
+      v = length-map ss (λ s. s .v) ∙ e;
+      x = length-map ss (λ s. s .x) ∙ e;
+      y = length-map ss (λ s. s .y) ∙ e;
+      z = length-map ss (λ s. s .z) ∙ e;
+      cost = length-map ss (λ s. s .cost) ∙ e;
+    }
+
+-- ── columns that are equally long ──
+
+-- the text of the steps from a place on, and of the ending
+abbrev pub textFrom : Columns → ℕ → ℕ → List ℕ
+textFrom c d i =
+    chainText (stepsOf (drop i (c .v)) (drop i (c .x)) (drop i (c .y)) (drop i (c .z)) (drop i (c .cost))) d
+
+module _ (c : Columns) (e : Even (length (c .v)) c) (d i : ℕ) where
+  text-next : i < length (c .v) → textFrom c d i ≡ lineOf STEP (ofStep (stepAt c i)) ++ textFrom c d (i + 1)
+  unfolding chainText stepsOf
+  text-next h =
+      rw (
+        add-one,
+        drop-cons (c .v) i 0,
+        drop-cons (c .x) i 0 (omega arith),
+        drop-cons (c .y) i 0 (omega arith),
+        drop-cons (c .z) i 0 (omega arith),
+        drop-cons (c .cost) i (pos 0) (omega arith),
+      )
+
+  text-end : length (c .v) ≤ i → textFrom c d i ≡ lineOf DROPPED (ofDropped (record { edge = d })) ++ []
+  unfolding chainText stepsOf
+  text-end h = rw (drop-of-length-le (c .v) h, append-nil)
+
+  -- the line of the step at a place, or of the ending, is left to write
+  module _ {whole old out : List ℕ} {at : ℕ} (w : Written whole (textFrom c d i) old out at) where
+    pub step-left : i < length (c .v)
+        → Written whole (lineOf STEP (ofStep (stepAt c i)) ++ textFrom c d (i + 1)) old out at
+    step-left h = rw (text-next h) at w
+
+    pub ending-left : length (c .v) ≤ i
+        → Written whole (lineOf DROPPED (ofDropped (record { edge = d })) ++ []) old out at
+    ending-left h = rw (text-end h) at w
+
 -- steps are found again in their columns, and even columns in their steps
-pub steps-back : (ss : List Step) → stepsOf (map (λ s. s .v) ss) (map (λ s. s .x) ss) (map (λ s. s .y) ss) ≡ ss
+pub steps-back : (ss : List Step) → stepsAcross (columnsOf ss) ≡ ss
 unfolding stepsOf
 steps-back [] = refl
 steps-back (s ∷ ss) = ap (λ (l : List Step). s ∷ l) (steps-back ss)
 
-pub record InColumns (ss : List Step) (v x y : List ℕ) : Type 0 where
-  pub same-v : map (λ s. s .v) ss ≡ v
-  pub same-x : map (λ s. s .x) ss ≡ x
-  pub same-y : map (λ s. s .y) ss ≡ y
-
-pub in-columns : (v x y : List ℕ) → length x ≡ length v → length y ≡ length v → InColumns (stepsOf v x y) v x y
+across : (v x y z : List ℕ) (cost : List ℤ) → Even (length v) (columns v x y z cost)
+    → columnsOf (stepsOf v x y z cost) ≡ columns v x y z cost
 unfolding stepsOf
-in-columns [] [] [] p q = record { same-v = refl; same-x = refl; same-y = refl }
-in-columns [] (b ∷ x) y p q = absurd (omega arith)
-in-columns [] [] (c ∷ y) p q = absurd (omega arith)
-in-columns (a ∷ v) [] y p q = absurd (omega arith)
-in-columns (a ∷ v) (b ∷ x) [] p q = absurd (omega arith)
-in-columns (a ∷ v) (b ∷ x) (c ∷ y) p q =
-    let l = in-columns v x y (omega arith) (omega arith) in
-    record {
-      same-v = ap (λ (c : List ℕ). a ∷ c) (l .same-v);
-      same-x = ap (λ (c : List ℕ). b ∷ c) (l .same-x);
-      same-y = ap (λ (d : List ℕ). c ∷ d) (l .same-y);
-    }
+across [] [] [] [] [] e = refl
+across [] (b ∷ x) y z cost e = absurd (omega (arith, e .x))
+across [] [] (b ∷ y) z cost e = absurd (omega (arith, e .y))
+across [] [] [] (b ∷ z) cost e = absurd (omega (arith, e .z))
+across [] [] [] [] (b ∷ cost) e = absurd (omega (arith, e .cost))
+across (a ∷ v) [] y z cost e = absurd (omega (arith, e .x))
+across (a ∷ v) (b ∷ x) [] z cost e = absurd (omega (arith, e .y))
+across (a ∷ v) (b ∷ x) (c ∷ y) [] cost e = absurd (omega (arith, e .z))
+across (a ∷ v) (b ∷ x) (c ∷ y) (d ∷ z) [] e = absurd (omega (arith, e .cost))
+across (a ∷ v) (b ∷ x) (c ∷ y) (d ∷ z) (q ∷ cost) e =
+    ap (λ (l : Columns). columns (a ∷ l .v) (b ∷ l .x) (c ∷ l .y) (d ∷ l .z) (q ∷ l .cost))
+    (across v x y z cost
+    (record {
+      v = refl;
+      x = omega (arith, e .x);
+      y = omega (arith, e .y);
+      z = omega (arith, e .z);
+      cost = omega (arith, e .cost);
+    }))
 
-pub length-steps : {k : ℕ} {v x y : List ℕ} → Even k v x y → length (stepsOf v x y) ≡ k
-length-steps {k} {v} {x} {y} h =
-    let l = in-columns v x y (h .in-x ∙ sym (h .in-v)) (h .in-y ∙ sym (h .in-v)) in
-    sym (length-map (stepsOf v x y) (λ s. s .v)) ∙ ap length (l .same-v) ∙ h .in-v
+pub columns-back : {k : ℕ} {c : Columns} → Even k c → columnsOf (stepsAcross c) ≡ c
+columns-back {k} {c} e =
+    across (c .v) (c .x) (c .y) (c .z) (c .cost) (each (λ A part h. h ∙ sym (e .v)) e)
 
--- the text that is due from columns
-module _ (n : ℕ) (v x y : List ℕ) (d : ℕ) where
-  pub write-limits : verticesOk n ≡ false → writeChain n v x y d ≡ refused VERTICES
+pub length-steps : {k : ℕ} {c : Columns} → Even k c → length (stepsAcross c) ≡ k
+length-steps {k} {c} e =
+    sym (length-map (stepsAcross c) (λ s. s .v)) ∙ ap (λ (l : Columns). length (l .v)) (columns-back e) ∙ e .v
+
+-- ── the text that is due from columns ──
+
+module _ (n : ℕ) (c : Columns) (d : ℕ) where
+  pub write-limits : verticesOk n ≡ false → writeChain n c d ≡ refused VERTICES
   unfolding writeChain
   write-limits e = rw e
 
   module _ (h : verticesOk n ≡ true) where
-    pub write-uneven : (Even (n - fewestVertices) v x y → ⊥) → writeChain n v x y d ≡ refused FORM
-    unfolding writeChain
-    write-uneven u = rw (h, columns-uneven u)
+    pub write-uneven : (Even (n - fewestVertices) c → ⊥) → writeChain n c d ≡ refused FORM
+    unfolding writeChain evenly
+    write-uneven u = rw (h, not-every _ (λ e. u (each (λ A part. eqb-true _ _) e)))
 
-    pub write-even : Even (n - fewestVertices) v x y → writeChain n v x y d ≡ answer (chainText (stepsOf v x y) d)
-    unfolding writeChain
-    write-even e = rw (h, columns-even e)
+    pub write-even : Even (n - fewestVertices) c → writeChain n c d ≡ answer (chainText (stepsAcross c) d)
+    unfolding writeChain evenly
+    write-even e = rw (h, true-every _ (each (λ A part. eq-eqb _ _) e))
+
+pub even-columns : {k : ℕ} {c : Columns} → evenly k c ≡ true → Even k c
+unfolding evenly
+even-columns e = each (λ A part. eqb-true _ _) (every-true _ e)
 
 -- how many bytes it has
-pub length-even : {k : ℕ} {v x y : List ℕ} → Even k v x y → (d : ℕ)
-    → length (chainText (stepsOf v x y) d) ≡ chainLength k
-length-even {k} {v} {x} {y} e d = length-chain (stepsOf v x y) d ∙ ap chainLength (length-steps e)
+pub length-even : {k : ℕ} {c : Columns} → Even k c → (d : ℕ) → length (chainText (stepsAcross c) d) ≡ chainLength k
+length-even {k} {c} e d = length-chain (stepsAcross c) d ∙ ap chainLength (length-steps e)

@@ -18,15 +18,17 @@ use Rattle.frame.specs.Table.{STEP, DROPPED, lineLength}
 use Rattle.frame.specs.Line.{isLine, fieldsOf}
 use Rattle.frame.specs.Kinds.{stepOf, droppedOf}
 use Rattle.frame.specs.declared.kinds.Step.{Step}
-use Rattle.chain_text.specs.Text.{Meaning, vOf, xOf, yOf, stepsIn, endingIn, chainIn, readChain, chainText}
-use Rattle.chain_text.specs.Text.{evenly, stepsOf, writeChain}
+use Rattle.frame.proofs.Named.{step-cost-spelt, step-found as step-named}
+use Rattle.chain_text.specs.Columns.{Columns}
+use Rattle.chain_text.specs.Text.{Meaning, inColumns, stepsIn, endingIn, chainIn, readChain, chainText}
+use Rattle.chain_text.specs.Text.{evenly, stepsAcross, writeChain}
 use Rattle.chain_text.specs.OneToOne.{Spellable, ReadBack, OneToOne}
 use Rattle.chain_text.proofs.Texts.{step-fits, step-is, step-found, step-rest, no-ending, ending-is}
 use Rattle.chain_text.proofs.Texts.{ending-found, no-step, step-before, ending-alone}
 use Rattle.chain_text.proofs.Parsing.{both}
 use Rattle.chain_text.proofs.Lengths.{length-chain, length-ending}
-use Rattle.chain_text.proofs.Columns.{Even, even-columns, in-columns, length-steps, steps-back, write-limits}
-use Rattle.chain_text.proofs.Columns.{write-uneven, write-even}
+use Rattle.chain_text.proofs.Columns.{even-columns, columns-back, length-steps, steps-back, steps-even}
+use Rattle.chain_text.proofs.Columns.{write-limits, write-uneven, write-even}
 
 -- ── a chain by its first frame ──
 
@@ -68,18 +70,31 @@ ending-in d h =
 
 -- as many steps as are due, or another number of them
 found : (k : ℕ) (ss : List Step) (d : ℕ) → let m : Meaning = record { steps = ss; dropped = d } in
-    Spellable (vOf m) (xOf m) (yOf m) d → length ss ≡ k → chainIn k (chainText ss d) ≡ answer m
+    Spellable (inColumns m) d → length ss ≡ k → chainIn k (chainText ss d) ≡ answer m
 unfolding before andThen
 found zero [] d h e = chain-ending (chainText [] d) ∙ rw (ending-in d (h .ending))
 found zero (s ∷ ss) d h e = absurd (omega arith)
 found (suc k) [] d h e = absurd (omega arith)
 found (suc k) (s ∷ ss) d h e =
-    let fits = step-fits s (h .in-v .0) (h .in-x .0) (h .in-y .0) in
+    let spelt = step-cost-spelt (s .cost) (h .in-cost .0) in
+    let fits = step-fits s (h .in-v .0) (h .in-x .0) (h .in-y .0) (h .in-z .0) spelt in
     let m : Meaning = record { steps = ss; dropped = d } in
-    let spellable : Spellable (vOf m) (xOf m) (yOf m) d =
-    record { in-v = h .in-v .1; in-x = h .in-x .1; in-y = h .in-y .1; ending = h .ending } in
+    let spellable : Spellable (inColumns m) d = record {
+      in-v = h .in-v .1;
+      in-x = h .in-x .1;
+      in-y = h .in-y .1;
+      in-z = h .in-z .1;
+      in-cost = h .in-cost .1;
+      ending = h .ending;
+    } in
     chain-more k (chainText (s ∷ ss) d)
-    ∙ rw (step-is s ss d, step-found s ss d fits, step-rest s ss d, found k ss d spellable (omega arith))
+    ∙ rw (
+      step-is s ss d,
+      step-found s ss d fits,
+      step-named s spelt,
+      step-rest s ss d,
+      found k ss d spellable (omega arith),
+    )
 
 not-found : (k : ℕ) (ss : List Step) (d : ℕ) → (length ss ≡ k → ⊥) → chainIn k (chainText ss d) ≡ refused FORM
 unfolding endingIn before andThen
@@ -134,86 +149,69 @@ read-text (suc k) t m e = go (isLine STEP t) refl (chainIn k later) (read-text k
 
 -- ── what is owed ──
 
--- a meaning's columns are even
-even : (m : Meaning) {k : ℕ} → length (m .steps) ≡ k → Even k (vOf m) (xOf m) (yOf m)
-even m e =
-    record {
-      in-v = length-map (m .steps) (λ s. s .v) ∙ e;
-      in-x = length-map (m .steps) (λ s. s .x) ∙ e;
-      in-y = length-map (m .steps) (λ s. s .y) ∙ e;
-    }
-
 write-meaning : (n : ℕ) (m : Meaning) → verticesOk n ≡ true → length (m .steps) ≡ n - fewestVertices
-    → writeChain n (vOf m) (xOf m) (yOf m) (m .dropped) ≡ answer (chainText (m .steps) (m .dropped))
+    → writeChain n (inColumns m) (m .dropped) ≡ answer (chainText (m .steps) (m .dropped))
 write-meaning n m h e =
-    write-even n (vOf m) (xOf m) (yOf m) (m .dropped) h (even m e) ∙ rw (steps-back (m .steps))
+    write-even n (inColumns m) (m .dropped) h (steps-even (m .steps) e) ∙ rw (steps-back (m .steps))
 
-same-refusal : (n : ℕ) (m : Meaning) → Spellable (vOf m) (xOf m) (yOf m) (m .dropped)
-    → writeChain n (vOf m) (xOf m) (yOf m) (m .dropped)
+same-refusal : (n : ℕ) (m : Meaning) → Spellable (inColumns m) (m .dropped)
+    → writeChain n (inColumns m) (m .dropped)
     ≡ andThen (readChain n (chainText (m .steps) (m .dropped))) (λ _. answer (chainText (m .steps) (m .dropped)))
 unfolding readChain andThen
 same-refusal n m s = go (verticesOk n) refl (eqb (length (m .steps)) (n - fewestVertices)) refl
   where
     go : (b : Bool) → verticesOk n ≡ b → (c : Bool) → eqb (length (m .steps)) (n - fewestVertices) ≡ c
-        → writeChain n (vOf m) (xOf m) (yOf m) (m .dropped)
+        → writeChain n (inColumns m) (m .dropped)
         ≡ andThen (readChain n (chainText (m .steps) (m .dropped))) (λ _. answer (chainText (m .steps) (m .dropped)))
-    go false h c e = write-limits n (vOf m) (xOf m) (yOf m) (m .dropped) h ∙ rw h
+    go false h c e = write-limits n (inColumns m) (m .dropped) h ∙ rw h
     go true h true e =
         let count = eqb-true _ _ e in
         write-meaning n m h count ∙ rw (h, found (n - fewestVertices) (m .steps) (m .dropped) s count)
     go true h false e =
         let miscount = eqb-false _ _ e in
-        write-uneven n (vOf m) (xOf m) (yOf m) (m .dropped) h
-        (λ p. miscount (sym (length-map (m .steps) (λ s. s .v)) ∙ p .in-v))
+        write-uneven n (inColumns m) (m .dropped) h
+        (λ p. miscount (sym (length-map (m .steps) (λ s. s .v)) ∙ p .v))
         ∙ rw (h, not-found (n - fewestVertices) (m .steps) (m .dropped) miscount)
 
 written-read : (n : ℕ) (t : List ℕ) (m : Meaning) → readChain n t ≡ answer m
-    → writeChain n (vOf m) (xOf m) (yOf m) (m .dropped) ≡ answer t
+    → writeChain n (inColumns m) (m .dropped) ≡ answer t
 unfolding readChain
 written-read n t m e = go (verticesOk n) refl e
   where
     go : (b : Bool) → verticesOk n ≡ b → cond b (chainIn (n - fewestVertices) t) (refused VERTICES) ≡ answer m
-        → writeChain n (vOf m) (xOf m) (yOf m) (m .dropped) ≡ answer t
+        → writeChain n (inColumns m) (m .dropped) ≡ answer t
     go false h e = no-answer (cc)
     go true h e =
         let w = read-text (n - fewestVertices) t m e in
         write-meaning n m h (w .count) ∙ ap answer (sym (w .text-is))
 
-read-written : (n : ℕ) (v x y : List ℕ) (d : ℕ) (t : List ℕ) → Spellable v x y d → writeChain n v x y d ≡ answer t
-    → ReadBack n t v x y d
+read-written : (n : ℕ) (c : Columns) (d : ℕ) (t : List ℕ) → Spellable c d → writeChain n c d ≡ answer t
+    → ReadBack n t c d
 unfolding readChain writeChain
-read-written n v x y d t s e = go (verticesOk n) refl (evenly (n - fewestVertices) v x y) refl e
+read-written n c d t s e = go (verticesOk n) refl (evenly (n - fewestVertices) c) refl e
   where
-    go : (b : Bool) → verticesOk n ≡ b → (c : Bool) → evenly (n - fewestVertices) v x y ≡ c
-        → cond b (cond c (answer (chainText (stepsOf v x y) d)) (refused FORM)) (refused VERTICES) ≡ answer t
-        → ReadBack n t v x y d
-    go false h c q e = no-answer (cc)
-    go true h false q e = no-answer (cc)
-    go true h true q e =
-        let u = even-columns q in
-        let l = in-columns v x y (u .in-x ∙ sym (u .in-v)) (u .in-y ∙ sym (u .in-v)) in
-        let p : t ≡ chainText (stepsOf v x y) d = cc in
-        let m : Meaning = record { steps = stepsOf v x y; dropped = d } in
-        let spellable : Spellable (vOf m) (xOf m) (yOf m) d = record {
-          in-v = rw (l .same-v) (s .in-v);
-          in-x = rw (l .same-x) (s .in-x);
-          in-y = rw (l .same-y) (s .in-y);
-          ending = s .ending;
-        } in
+    go : (b : Bool) → verticesOk n ≡ b → (q : Bool) → evenly (n - fewestVertices) c ≡ q
+        → cond b (cond q (answer (chainText (stepsAcross c) d)) (refused FORM)) (refused VERTICES) ≡ answer t
+        → ReadBack n t c d
+    go false h q u e = no-answer (cc)
+    go true h false u e = no-answer (cc)
+    go true h true u e =
+        let even = even-columns u in
+        let p : t ≡ chainText (stepsAcross c) d = cc in
+        let m : Meaning = record { steps = stepsAcross c; dropped = d } in
+        let spellable : Spellable (inColumns m) d = rw (columns-back even) s in
         record {
           meaning = m;
-          is = rw (p, h) (found (n - fewestVertices) (stepsOf v x y) d spellable (length-steps u));
-          same-v = l .same-v;
-          same-x = l .same-x;
-          same-y = l .same-y;
+          is = rw (p, h) (found (n - fewestVertices) (stepsAcross c) d spellable (length-steps even));
+          same-columns = columns-back even;
           same-ending = refl;
         }
 
 limits-first : (n : ℕ) → verticesOk n ≡ false
     → ((t : List ℕ) → readChain n t ≡ refused VERTICES)
-    × ((v x y : List ℕ) (d : ℕ) → writeChain n v x y d ≡ refused VERTICES)
+    × ((c : Columns) (d : ℕ) → writeChain n c d ≡ refused VERTICES)
 unfolding readChain
-limits-first n h = (λ t. rw h, λ v x y d. write-limits n v x y d h)
+limits-first n h = (λ t. rw h, λ c d. write-limits n c d h)
 
 pub one-to-one : OneToOne
 one-to-one =
@@ -222,6 +220,6 @@ one-to-one =
       written-read = written-read;
       one-text = λ n s t m p q. let a = written-read n s m p in let b = written-read n t m q in cc;
       same-refusal = same-refusal;
-      wrong-count = λ n v x y d h u. write-uneven n v x y d h (λ e. u (e .in-v) (e .in-x) (e .in-y));
+      wrong-count = write-uneven;
       limits-first = limits-first;
     }

@@ -19,8 +19,9 @@ use Rattle.frame.specs.declared.line.Fields.{Fields}
 use Rattle.frame.specs.declared.kinds.Step.{Step}
 use Rattle.frame.specs.declared.kinds.Dropped.{Dropped}
 use Rattle.frame.proofs.Runs.{Next, none-read}
+use Rattle.chain_text.specs.Columns.{Columns, Each}
 use Rattle.chain_text.specs.Text.{Meaning, stepsIn, endingIn, chainIn, readChain, readReply}
-use Rattle.chain_text.specs.Columns.{StepsRead, ChainRead}
+use Rattle.chain_text.specs.Working.{StepsRead, ChainRead}
 use Rattle.chain_text.specs.declared.chain.ReadChain.the-variants.{Refused, Read}
 
 -- the ending at a place
@@ -76,57 +77,55 @@ abbrev pub both : Answer (List Step) → Answer ℕ → Answer Meaning
 both a b = andThen a (λ ss. andThen b (λ d. answer (record { steps = ss; dropped = d })))
 
 -- a chain for n vertices, and columns that are to hold it
-module _ (n : ℕ) (text v₀ x₀ y₀ : List ℕ) where
-  pub out-of-limits : verticesOk n ≡ false → ChainRead (readChain n text) v₀ x₀ y₀ v₀ x₀ y₀ (Refused VERTICES)
+module _ (n : ℕ) (text : List ℕ) (old : Columns) where
+  pub out-of-limits : verticesOk n ≡ false → ChainRead (readChain n text) old old (Refused VERTICES)
   unfolding readChain readReply
-  out-of-limits e = rw e (record { reply = refl; vs = refl; xs = refl; ys = refl })
+  out-of-limits e =
+      rw e (record { reply = refl; held = record { v = refl; x = refl; y = refl; z = refl; cost = refl } })
 
-  module _ {v x y : List ℕ} {r : ℕ} (h : verticesOk n ≡ true)
-      (s : StepsRead (stepsIn (n - fewestVertices) text) v₀ x₀ y₀ v x y r) where
+  module _ {new : Columns} {r : ℕ} (h : verticesOk n ≡ true)
+      (s : StepsRead (stepsIn (n - fewestVertices) text) old new r) where
     due : {line : ℕ} → line ≡ lineLength STEP
         → readChain n text
         ≡ both (stepsIn (n - fewestVertices) text) (endingIn (drop ((n - fewestVertices) * line) text))
     unfolding readChain chainIn
     due p = rw (h, p)
 
-    pub steps-refused : 0 < r → ChainRead (readChain n text) v₀ x₀ y₀ v x y (Refused r)
+    pub steps-refused : 0 < r → ChainRead (readChain n text) old new (Refused r)
     unfolding andThen refusalOf readReply
     steps-refused l =
         let ending = endingIn (drop ((n - fewestVertices) * lineLength STEP) text) in
         rw (due refl) (go (stepsIn (n - fewestVertices) text) ending s)
       where
-        go : (a : Answer (List Step)) (b : Answer ℕ) → StepsRead a v₀ x₀ y₀ v x y r
-            → ChainRead (both a b) v₀ x₀ y₀ v x y (Refused r)
-        go (refused k) b p = record { reply = ap Refused (p .reply); vs = p .vs; xs = p .xs; ys = p .ys }
+        go : (a : Answer (List Step)) (b : Answer ℕ) → StepsRead a old new r → ChainRead (both a b) old new (Refused r)
+        go (refused k) b p = record { reply = ap Refused (p .reply); held = p .held }
         go (answer ss) b p = absurd (omega (arith, p .reply))
 
     -- the steps are there: what stands behind them
     module _ (l : r ≤ 0) {line : ℕ} (size : line ≡ lineLength STEP) where
       pub ending-refused : refused FORM ≡ endingIn (drop ((n - fewestVertices) * line) text)
-          → length v ≡ length v₀ → length x ≡ length x₀ → length y ≡ length y₀
-          → ChainRead (readChain n text) v₀ x₀ y₀ v x y (Refused FORM)
+          → Each (λ A part. length (part new) ≡ length (part old))
+          → ChainRead (readChain n text) old new (Refused FORM)
       unfolding andThen readReply refusalOf
-      ending-refused e a b c = rw (due size, ← e) (go (stepsIn (n - fewestVertices) text) refl s)
+      ending-refused e kept = rw (due size, ← e) (go (stepsIn (n - fewestVertices) text) refl s)
         where
-          go : (a : Answer (List Step)) → stepsIn (n - fewestVertices) text ≡ a → StepsRead a v₀ x₀ y₀ v x y r
-              → ChainRead (both a (refused FORM)) v₀ x₀ y₀ v x y (Refused FORM)
+          go : (a : Answer (List Step)) → stepsIn (n - fewestVertices) text ≡ a → StepsRead a old new r
+              → ChainRead (both a (refused FORM)) old new (Refused FORM)
           go (refused k) q p =
               absurd (omega (arith, p .reply, steps-numbered (n - fewestVertices) text .number k q .0))
-          go (answer ss) q p = record { reply = refl; vs = a; xs = b; ys = c }
+          go (answer ss) q p = record { reply = refl; held = kept }
 
       pub chain-read : {d : ℕ} → answer d ≡ endingIn (drop ((n - fewestVertices) * line) text)
-          → ChainRead (readChain n text) v₀ x₀ y₀ v x y (Read (n - fewestVertices) d)
+          → ChainRead (readChain n text) old new (Read (n - fewestVertices) d)
       unfolding andThen readReply refusalOf
       chain-read {d} e = rw (due size, ← e) (go (stepsIn (n - fewestVertices) text) refl s)
         where
-          go : (a : Answer (List Step)) → stepsIn (n - fewestVertices) text ≡ a → StepsRead a v₀ x₀ y₀ v x y r
-              → ChainRead (both a (answer d)) v₀ x₀ y₀ v x y (Read (n - fewestVertices) d)
+          go : (a : Answer (List Step)) → stepsIn (n - fewestVertices) text ≡ a → StepsRead a old new r
+              → ChainRead (both a (answer d)) old new (Read (n - fewestVertices) d)
           go (refused k) q p =
               absurd (omega (arith, p .reply, steps-numbered (n - fewestVertices) text .number k q .0))
           go (answer ss) q p =
               record {
                 reply = ap (λ (k : ℕ). Read k d) (sym (steps-count (n - fewestVertices) text ss q));
-                vs = p .vs;
-                xs = p .xs;
-                ys = p .ys;
+                held = p .held;
               }

@@ -1,7 +1,7 @@
 -- What is known while the steps of a chain text are read into columns, one after the other.
 -- Assumes nothing.
 use mathlib.Core.Path.{_≡_, refl, sym, _∙_}
-use mathlib.Core.List.{List, [], _∷_, _++_, map}
+use mathlib.Core.List.{List, [], _∷_, _++_}
 use Prim.Native.Nat.{ℕ, suc, _+_, _-_, _≤_, _<_}
 use native.Mathlib.Omega.{arith}
 use native.Mathlib.Nat.{sub-zero}
@@ -17,8 +17,10 @@ use Rattle.frame.specs.Kinds.{stepOf}
 use Rattle.frame.specs.declared.line.Fields.{Fields}
 use Rattle.frame.specs.declared.kinds.Step.{Step}
 use Rattle.frame.proofs.Runs.{Next, none-read}
+use Rattle.chain_text.specs.Columns.{Columns, columns, columnsOf, Each}
 use Rattle.chain_text.specs.Text.{stepsIn}
-use Rattle.chain_text.specs.Columns.{Columns, StepsRead}
+use Rattle.chain_text.specs.Working.{Room, StepsRead}
+use Rattle.chain_text.proofs.Columns.{each}
 
 -- the first line of what is left: a step, or none
 module _ (k : ℕ) (text : List ℕ) (at : ℕ) where
@@ -31,45 +33,47 @@ module _ (k : ℕ) (text : List ℕ) (at : ℕ) where
   unfolding stepsIn
   left-broken e = rw (none-read STEP at text e)
 
--- i of k steps are taken: they and those that are left make all of them, and the columns start with them
-pub record Reading (k : ℕ) (text v₀ x₀ y₀ v x y : List ℕ) (at i : ℕ) : Type 0 where
+-- i of k steps are taken: they and those that are left make all of them, and each column starts with its part of them
+pub record Reading (k : ℕ) (text : List ℕ) (old new : Columns) (at i : ℕ) : Type 0 where
   pub steps : List Step
   pub count : length steps ≡ i
   pub within : i ≤ k
   pub all : behind steps (stepsIn (k - i) (drop at text)) ≡ stepsIn k text
-  pub in-v : Storing (map (λ s. s .v) steps) v₀ v
-  pub in-x : Storing (map (λ s. s .x) steps) x₀ x
-  pub in-y : Storing (map (λ s. s .y) steps) y₀ y
+  pub stored : Each (λ A part. Storing (part (columnsOf steps)) (part old) (part new))
 
-pub reading-none : {k : ℕ} {text v x y : List ℕ} → Reading k text v x y v x y 0 0
+pub reading-none : {k : ℕ} {text : List ℕ} {c : Columns} → Reading k text c c 0 0
 reading-none {k} {text} =
     record {
       steps = [];
       count = refl;
       within = omega arith;
       all = rw sub-zero (behind-none (stepsIn k text));
-      in-v = storing-none;
-      in-x = storing-none;
-      in-y = storing-none;
+      stored =
+          record { v = storing-none; x = storing-none; y = storing-none; z = storing-none; cost = storing-none };
     }
 
-module _ {k : ℕ} {text v₀ x₀ y₀ v x y : List ℕ} {at i : ℕ} (r : Reading k text v₀ x₀ y₀ v x y at i) where
+-- columns with a step stored at a place
+abbrev pub stepStored : Columns → ℕ → Step → Columns
+stepStored c i s =
+    columns (set (c .v) i (s .v)) (set (c .x) i (s .x)) (set (c .y) i (s .y)) (set (c .z) i (s .z))
+    (set (c .cost) i (s .cost))
+
+module _ {k : ℕ} {text : List ℕ} {old new : Columns} {at i : ℕ} (r : Reading k text old new at i) where
   -- a step is due
   module _ (h : i < k) where
     one-due : k - i ≡ suc (k - (i + 1))
     one-due = omega arith
 
-    pub reading-broken : refused FORM ≡ readLine STEP text at → StepsRead (stepsIn k text) v₀ x₀ y₀ v x y FORM
+    pub reading-broken : refused FORM ≡ readLine STEP text at → StepsRead (stepsIn k text) old new FORM
     unfolding refusalOf
     reading-broken e =
         let whole : refused FORM ≡ stepsIn k text =
         sym (behind-refused (r .steps) FORM) ∙ rw (one-due, left-broken (k - (i + 1)) text at e) at (r .all) in
-        rw (← whole) (record { reply = refl; vs = r .in-v .size; xs = r .in-x .size; ys = r .in-y .size })
+        rw (← whole) (record { reply = refl; held = each (λ A part s. s .size) (r .stored) })
 
     -- and is there: each column takes its part of it
-    pub reading-next : Columns k v₀ x₀ y₀ → {f : Fields} {next : ℕ} → Next STEP at text f next
-        → {s : Step} → s ≡ stepOf f
-        → Reading k text v₀ x₀ y₀ (set v i (s .v)) (set x i (s .x)) (set y i (s .y)) next (i + 1)
+    pub reading-next : Room k old → {f : Fields} {next : ℕ} → Next STEP at text f next → {s : Step} → s ≡ stepOf f
+        → Reading k text old (stepStored new i s) next (i + 1)
     reading-next room {f} {next} e {s} q =
         record {
           steps = r .steps ++ (s ∷ []);
@@ -78,15 +82,20 @@ module _ {k : ℕ} {text v₀ x₀ y₀ v x y : List ℕ} {at i : ℕ} (r : Read
           all =
               sym (behind-next (r .steps) s (stepsIn (k - (i + 1)) (drop next text)))
               ∙ rw q (rw (one-due, left-next (k - (i + 1)) text at f next e) at (r .all));
-          in-v = part-next (λ s. s .v) (r .steps) s (r .in-v) (r .count) (omega (arith, room .v-room));
-          in-x = part-next (λ s. s .x) (r .steps) s (r .in-x) (r .count) (omega (arith, room .x-room));
-          in-y = part-next (λ s. s .y) (r .steps) s (r .in-y) (r .count) (omega (arith, room .y-room));
+          stored =
+              record {
+                v = part-next (λ s. s .v) (r .steps) s (r .stored .v) (r .count) (omega (arith, room .v));
+                x = part-next (λ s. s .x) (r .steps) s (r .stored .x) (r .count) (omega (arith, room .x));
+                y = part-next (λ s. s .y) (r .steps) s (r .stored .y) (r .count) (omega (arith, room .y));
+                z = part-next (λ s. s .z) (r .steps) s (r .stored .z) (r .count) (omega (arith, room .z));
+                cost = part-next (λ s. s .cost) (r .steps) s (r .stored .cost) (r .count) (omega (arith, room .cost));
+              };
         }
 
   -- all are taken
-  pub reading-all : k ≤ i → StepsRead (stepsIn k text) v₀ x₀ y₀ v x y 0
+  pub reading-all : k ≤ i → StepsRead (stepsIn k text) old new 0
   unfolding refusalOf stepsIn
   reading-all h =
       let none-due : k - i ≡ 0 = omega arith in
       let whole : answer (r .steps) ≡ stepsIn k text = sym (behind-all (r .steps)) ∙ rw none-due at (r .all) in
-      rw (← whole) (record { reply = refl; vs = r .in-v .holds; xs = r .in-x .holds; ys = r .in-y .holds })
+      rw (← whole) (record { reply = refl; held = each (λ A part s. s .holds) (r .stored) })

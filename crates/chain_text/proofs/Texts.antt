@@ -3,32 +3,36 @@
 use mathlib.Core.Path.{_≡_, refl, sym, _∙_}
 use mathlib.Core.Bool.{Bool, true, false}
 use mathlib.Core.List.{List, [], _∷_, _++_, append-nil}
-use Prim.Native.Nat.{ℕ, _^_, _<_}
+use Prim.Native.Nat.{ℕ, _*_, _^_, _<_}
 use lib.Dec.{lit<}
 use lib.ListN.{drop}
+use lib.Signed.{mag}
 use borrow.Author.Tests.{eqb-false}
-use Rattle.frame.specs.Table.{STEP, DROPPED, kindOf, bytesOf, padded, widths, lineLength}
+use Rattle.frame.specs.Table.{STEP, DROPPED, kindOf, bytesOf, padded, digitsOf, widths, lineLength}
 use Rattle.frame.specs.Line.{isLine, fieldsOf, lineOf, Fits}
-use Rattle.frame.specs.Kinds.{stepOf, ofStep, droppedOf, ofDropped}
+use Rattle.frame.specs.Kinds.{stepCostDigits, stepOf, ofStep, droppedOf, ofDropped}
 use Rattle.frame.specs.declared.line.Fields.{Fields}
 use Rattle.frame.specs.declared.kinds.Step.{Step}
 use Rattle.frame.proofs.Lines.{formed, line-rest, line-is, fields-found, line-back, line-fits}
 use Rattle.frame.proofs.Named.{step-back, dropped-back}
+use Rattle.digits.proofs.Signs.{unsigned-lt}
 use Rattle.chain_text.specs.Text.{chainText}
 
--- numbers of 16 bits have room in their lines
-pub step-fits : (s : Step) → s .v < 2 ^ 16 → s .x < 2 ^ 16 → s .y < 2 ^ 16 → Fits STEP (ofStep s)
-unfolding Fits widths bytesOf padded
-step-fits s v x y = (v, (x, (y, (lit< tt, (lit< tt, tt)))))
+-- numbers of 16 bits, and a cost that its digits can spell, have room in their lines
+pub step-fits : (s : Step) → s .v < 2 ^ 16 → s .x < 2 ^ 16 → s .y < 2 ^ 16 → s .z < 2 ^ 16
+    → 2 * mag (s .cost) < 16 ^ stepCostDigits → Fits STEP (ofStep s)
+unfolding Fits widths digitsOf bytesOf padded stepCostDigits
+step-fits s v x y z cost = (v, (x, (y, (z, (unsigned-lt stepCostDigits (s .cost) cost, tt)))))
 
 pub dropped-fits : (d : ℕ) → d < 2 ^ 16 → Fits DROPPED (ofDropped (record { edge = d }))
 unfolding Fits widths bytesOf padded
 dropped-fits d h = (h, (lit< tt, (lit< tt, (lit< tt, (lit< tt, tt)))))
 
 -- and what is read from a line has 16 bits
-pub step-short : (f : Fields) → Fits STEP f → (stepOf f .v < 2 ^ 16) × (stepOf f .x < 2 ^ 16) × (stepOf f .y < 2 ^ 16)
+pub step-short : (f : Fields) → Fits STEP f
+    → (stepOf f .v < 2 ^ 16) × (stepOf f .x < 2 ^ 16) × (stepOf f .y < 2 ^ 16) × (stepOf f .z < 2 ^ 16)
 unfolding Fits widths bytesOf padded
-step-short f h = (h .0, h .1 .0, h .1 .1 .0)
+step-short f h = (h .0, h .1 .0, h .1 .1 .0, h .1 .1 .1 .0)
 
 pub dropped-short : (f : Fields) → Fits DROPPED f → droppedOf f .edge < 2 ^ 16
 unfolding Fits widths bytesOf padded

@@ -1,41 +1,36 @@
--- What the functions over working columns are asked, and what they leave in the columns.
-use mathlib.Core.Path.{_≡_}
+-- The steps of a chain in five columns, and what holds of each column.
+use mathlib.Core.Bool.{Bool, _&&_}
 use mathlib.Core.List.{List, map}
-use Prim.Native.Nat.{ℕ, _≤_}
-use lib.ListN.{length, getD}
-use Rattle.base.specs.Answer.{Answer, refused, answer, refusalOf, Held}
-use Rattle.base.specs.Refusals.{FORM}
+use Prim.Native.Nat.{ℕ}
+use lib.IntN.{ℤ}
 use Rattle.frame.specs.declared.kinds.Step.{Step}
-use Rattle.chain_text.specs.Text.{Meaning, vOf, xOf, yOf, readReply}
-use Rattle.chain_text.specs.declared.chain.ReadChain.{ReadChain}
-use Rattle.chain_text.specs.declared.chain.ReadEnding.{ReadEnding}
-use Rattle.chain_text.specs.declared.chain.ReadEnding.the-variants.{Drops, Refused}
 
--- columns that have room for k steps
-pub record Columns (k : ℕ) (v x y : List ℕ) : Type 0 where
-  pub v-room : k ≤ length v
-  pub x-room : k ≤ length x
-  pub y-room : k ≤ length y
+-- each step's v, x, y, z and z's new cost
+pub record Columns : Type 0 where
+  pub v : List ℕ
+  pub x : List ℕ
+  pub y : List ℕ
+  pub z : List ℕ
+  pub cost : List ℤ
 
--- what reading steps into working columns replies, and what the columns hold
-pub record StepsRead (a : Answer (List Step)) (v₀ x₀ y₀ v x y : List ℕ) (r : ℕ) : Type 0 where
-  pub reply : r ≡ refusalOf a
-  pub vs : Held (map (λ s. s .v)) a v₀ v
-  pub xs : Held (map (λ s. s .x)) a x₀ x
-  pub ys : Held (map (λ s. s .y)) a y₀ y
+-- columns of given lists
+abbrev pub columns : List ℕ → List ℕ → List ℕ → List ℕ → List ℤ → Columns
+columns v x y z cost = record { v = v; x = x; y = y; z = z; cost = cost }
 
--- what each case of a ReadEnding says: the dropped edge, or refusal 1
-abbrev pub endingAnswer : ReadEnding → Answer ℕ
-endingAnswer (Drops d) = answer d
-endingAnswer Refused = refused FORM
+-- the columns of steps
+abbrev pub columnsOf : List Step → Columns
+columnsOf ss =
+    columns (map (λ s. s .v) ss) (map (λ s. s .x) ss) (map (λ s. s .y) ss) (map (λ s. s .z) ss)
+    (map (λ s. s .cost) ss)
 
--- what reading a chain text into working columns replies, and what the columns hold
-pub record ChainRead (a : Answer Meaning) (v₀ x₀ y₀ v x y : List ℕ) (r : ReadChain) : Type 0 where
-  pub reply : r ≡ readReply a
-  pub vs : Held vOf a v₀ v
-  pub xs : Held xOf a x₀ x
-  pub ys : Held yOf a y₀ y
+-- what holds of each column, by the way it is taken from the five
+pub record Each (P : (A : Type 0) → (Columns → List A) → Type 0) : Type 0 where
+  pub v : P ℕ (λ c. c .v)
+  pub x : P ℕ (λ c. c .x)
+  pub y : P ℕ (λ c. c .y)
+  pub z : P ℕ (λ c. c .z)
+  pub cost : P ℤ (λ c. c .cost)
 
--- the step at a place of columns
-abbrev pub stepAt : List ℕ → List ℕ → List ℕ → ℕ → Step
-stepAt v x y i = record { v = getD v i 0; x = getD x i 0; y = getD y i 0 }
+-- whether a test passes of each column
+unfoldable pub every : ((A : Type 0) → (Columns → List A) → Bool) → Bool
+every f = f ℕ (λ c. c .v) && (f ℕ (λ c. c .x) && (f ℕ (λ c. c .y) && (f ℕ (λ c. c .z) && f ℤ (λ c. c .cost))))

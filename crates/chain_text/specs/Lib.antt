@@ -1,3 +1,4 @@
-pub mod Text
 pub mod Columns
+pub mod Text
+pub mod Working
 pub mod OneToOne

@@ -1,10 +1,11 @@
 -- Chain texts: what a text means for n vertices, and the text of a meaning.
 use mathlib.Core.Path.{_≡_}
 use mathlib.Core.Bool.{Bool, cond, _&&_}
-use mathlib.Core.List.{List, [], _∷_, _++_, map}
+use mathlib.Core.List.{List, [], _∷_, _++_}
 use Prim.Native.Nat.{ℕ, zero, suc, _+_, _*_, _-_}
 use lib.Dec.{leb, eqb}
 use lib.ListN.{length, drop}
+use lib.IntN.{ℤ}
 use Rattle.base.specs.Answer.{Answer, refused, answer, andThen, given, filled, roomIn}
 use Rattle.base.specs.Limits.{verticesOk, fewestVertices}
 use Rattle.base.specs.Refusals.{FORM, VERTICES}
@@ -12,6 +13,7 @@ use Rattle.frame.specs.Table.{STEP, DROPPED, lineLength}
 use Rattle.frame.specs.Line.{isLine, fieldsOf, lineOf}
 use Rattle.frame.specs.Kinds.{stepOf, ofStep, droppedOf, ofDropped}
 use Rattle.frame.specs.declared.kinds.Step.{Step}
+use Rattle.chain_text.specs.Columns.{Columns, columnsOf, Each, every}
 use Rattle.chain_text.specs.declared.chain.ReadChain.{ReadChain}
 use Rattle.chain_text.specs.declared.chain.ReadChain.the-variants.{Refused, Read}
 
@@ -21,14 +23,8 @@ pub record Meaning : Type 0 where
   pub dropped : ℕ
 
 -- its steps in columns
-abbrev pub vOf : Meaning → List ℕ
-vOf m = map (λ s. s .v) (m .steps)
-
-abbrev pub xOf : Meaning → List ℕ
-xOf m = map (λ s. s .x) (m .steps)
-
-abbrev pub yOf : Meaning → List ℕ
-yOf m = map (λ s. s .y) (m .steps)
+abbrev pub inColumns : Meaning → Columns
+inColumns m = columnsOf (m .steps)
 
 -- ── reading ──
 
@@ -60,20 +56,18 @@ unfoldable pub readReply : Answer Meaning → ReadChain
 readReply (refused k) = Refused k
 readReply (answer m) = Read (length (m .steps)) (m .dropped)
 
--- whether three columns have room for the steps
-unfoldable pub roomFor : List ℕ → List ℕ → List ℕ → Meaning → Bool
-roomFor v x y m = roomIn v (vOf m) && (roomIn x (xOf m) && roomIn y (yOf m))
+-- whether columns have room for the steps, each for its part of them
+unfoldable pub roomFor : Columns → Meaning → Bool
+roomFor c m = every (λ A part. roomIn (part c) (part (inColumns m)))
 
 -- the reader's answer once its columns are known: refused where one of them has no room
-unfoldable pub readGiven : ℕ → List ℕ → List ℕ → List ℕ → List ℕ → Answer Meaning
-readGiven n t v x y = given (roomFor v x y) (readChain n t)
+unfoldable pub readGiven : ℕ → List ℕ → Columns → Answer Meaning
+readGiven n t c = given (roomFor c) (readChain n t)
 
--- what reading a text into three columns comes to: all of them are written, or none
-pub record ReadInto (n : ℕ) (t v x y : List ℕ) (reply : ReadChain) (v′ x′ y′ : List ℕ) : Type 0 where
-  pub replies : reply ≡ readReply (readGiven n t v x y)
-  pub fills-v : v′ ≡ filled vOf (readGiven n t v x y) v
-  pub fills-x : x′ ≡ filled xOf (readGiven n t v x y) x
-  pub fills-y : y′ ≡ filled yOf (readGiven n t v x y) y
+-- what reading a text into columns comes to: all of them are written, or none
+pub record ReadInto (n : ℕ) (t : List ℕ) (old : Columns) (reply : ReadChain) (new : Columns) : Type 0 where
+  pub replies : reply ≡ readReply (readGiven n t old)
+  pub fills : Each (λ A part. part new ≡ filled (λ m. part (inColumns m)) (readGiven n t old) (part old))
 
 -- ── writing ──
 
@@ -87,18 +81,28 @@ unfoldable pub chainLength : ℕ → ℕ
 chainLength k = k * lineLength STEP + lineLength DROPPED
 
 -- the steps of columns, as far as each column has one
-unfoldable pub stepsOf : List ℕ → List ℕ → List ℕ → List Step
-stepsOf (v ∷ vs) (x ∷ xs) (y ∷ ys) = record { v = v; x = x; y = y } ∷ stepsOf vs xs ys
-stepsOf [] xs ys = []
-stepsOf (v ∷ vs) [] ys = []
-stepsOf (v ∷ vs) (x ∷ xs) [] = []
+unfoldable pub stepsOf : List ℕ → List ℕ → List ℕ → List ℕ → List ℤ → List Step
+stepsOf (v ∷ vs) (x ∷ xs) (y ∷ ys) (z ∷ zs) (c ∷ cs) =
+    record { v = v; x = x; y = y; z = z; cost = c } ∷ stepsOf vs xs ys zs cs
+stepsOf [] xs ys zs cs = []
+stepsOf (v ∷ vs) [] ys zs cs = []
+stepsOf (v ∷ vs) (x ∷ xs) [] zs cs = []
+stepsOf (v ∷ vs) (x ∷ xs) (y ∷ ys) [] cs = []
+stepsOf (v ∷ vs) (x ∷ xs) (y ∷ ys) (z ∷ zs) [] = []
 
--- whether three columns have k steps: none is missing in any of them, and none is left over
-unfoldable pub evenly : ℕ → List ℕ → List ℕ → List ℕ → Bool
-evenly k vs xs ys = eqb (length vs) k && (eqb (length xs) k && eqb (length ys) k)
+abbrev pub stepsAcross : Columns → List Step
+stepsAcross c = stepsOf (c .v) (c .x) (c .y) (c .z) (c .cost)
+
+-- columns with k steps each: none is missing in any of them, and none is left over
+abbrev pub Even : ℕ → Columns → Type 0
+Even k c = Each (λ A part. length (part c) ≡ k)
+
+-- whether columns are so
+unfoldable pub evenly : ℕ → Columns → Bool
+evenly k c = every (λ A part. eqb (length (part c)) k)
 
 -- the text of a meaning in columns, or the refusal that its text would meet
-unfoldable pub writeChain : ℕ → List ℕ → List ℕ → List ℕ → ℕ → Answer (List ℕ)
-writeChain n vs xs ys d =
-    let counted = evenly (n - fewestVertices) vs xs ys in
-    cond (verticesOk n) (cond counted (answer (chainText (stepsOf vs xs ys) d)) (refused FORM)) (refused VERTICES)
+unfoldable pub writeChain : ℕ → Columns → ℕ → Answer (List ℕ)
+writeChain n c d =
+    let counted = evenly (n - fewestVertices) c in
+    cond (verticesOk n) (cond counted (answer (chainText (stepsAcross c) d)) (refused FORM)) (refused VERTICES)

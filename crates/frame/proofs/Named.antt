@@ -2,24 +2,27 @@
 -- Assumes nothing.
 use mathlib.Core.Path.{_≡_, refl}
 use mathlib.Core.List.{List, [], _∷_, map}
-use Prim.Native.Nat.{ℕ, zero, suc, _*_, _^_, _<_}
+use Prim.Native.Nat.{ℕ, zero, suc, _*_, _^_, _≤_, _<_}
 use native.Mathlib.Omega.{arith}
 use lib.Dec.{lit<}
 use lib.ListN.{length, take, getD, length-map, List·getD-map}
 use lib.Seq.{take-nil}
+use lib.IntN.{ℤ}
 use lib.Signed.{mag}
-use Rattle.frame.specs.Table.{table, fields, padded, bytesOf, widths, digitsOf, HEAD, EDGE, STEP, DROPPED, KEPT}
-use Rattle.frame.specs.Table.{COSTS, TABLE-HEAD, SPAN, REFUSAL}
+use Rattle.frame.specs.Table.{table, rows, fields, padded, bytesOf, widths, digitsOf, HEAD, EDGE, STEP, DROPPED}
+use Rattle.frame.specs.Table.{KEPT, COSTS, TABLE-HEAD, SPAN, REFUSAL}
 use Rattle.frame.specs.Line.{listOf, fieldsFrom, FitAll, Fits}
-use Rattle.frame.specs.Kinds.{headOf, ofHead, costDigits, edgeOf, ofEdge, stepOf, ofStep, droppedOf, ofDropped}
-use Rattle.frame.specs.Kinds.{keptOf, ofKept, keptDigits, unreservedDigits, costsOf, ofCosts, refusalIn}
-use Rattle.frame.specs.Kinds.{ofRefusal, tableHeadOf, ofTableHead, spanCostDigits, spanOf, ofSpan}
+use Rattle.frame.specs.Kinds.{headOf, ofHead, costDigits, edgeOf, ofEdge, stepCostDigits, stepOf, ofStep}
+use Rattle.frame.specs.Kinds.{droppedOf, ofDropped, keptOf, ofKept, keptDigits, unreservedDigits, costsOf, ofCosts}
+use Rattle.frame.specs.Kinds.{refusalIn, ofRefusal, tableHeadOf, ofTableHead, spanCostDigits, spanOf, ofSpan}
 use Rattle.frame.specs.declared.line.Fields.{Fields}
 use Rattle.frame.specs.declared.kinds.Edge.{Edge}
+use Rattle.frame.specs.declared.kinds.Step.{Step}
 use Rattle.frame.specs.declared.kinds.Costs.{Costs}
 use Rattle.frame.specs.declared.kinds.Span.{Span}
+use Rattle.digits.specs.Sign.{signedOf, unsignedOf}
 use Rattle.digits.proofs.Signs.{unsigned-signed, signed-unsigned}
-use Rattle.frame.proofs.Rows.{length-bytes}
+use Rattle.frame.proofs.Rows.{length-bytes, digits-narrow}
 
 -- a field of a frame that fits has room in its digits
 fit-at : (ds vs : List ℕ) → FitAll ds vs → (k : ℕ) → k < length ds → getD vs k 0 < 16 ^ getD ds k 0
@@ -49,6 +52,16 @@ module _ (row : ℕ) (f : Fields) (x : Fits row f) where
       (fit-at (map (λ n. 2 * n) (bytesOf row)) (listOf f) x k
       (omega (arith, length-map (bytesOf row) (λ n. 2 * n), length-bytes row)))
 
+  -- what the code asks of a field that it reads as a signed number, and that it is found again when it is spelt
+  pub signed-asked : row < rows → (k : ℕ) → k < fields → 0 < digitsOf row k
+      → (0 < digitsOf row k) × (digitsOf row k ≤ 16) × (getD (listOf f) k 0 < 16 ^ digitsOf row k)
+  signed-asked l k h d = (d, digits-narrow row l k h, fits-at k h)
+
+  signed-back : (k : ℕ) → k < fields
+      → unsignedOf (digitsOf row k) (signedOf (digitsOf row k) (getD (listOf f) k 0)) ≡ getD (listOf f) k 0
+  signed-back k h = unsigned-signed (digitsOf row k) (getD (listOf f) k 0) (fits-at k h)
+
+  -- and all its fields are those that the table has
   present : fieldsFrom (take (length (getD table row (0, []) .1)) (listOf f)) ≡ f
   unfolding Fits widths bytesOf
   present =
@@ -58,9 +71,6 @@ module _ (row : ℕ) (f : Fields) (x : Fits row f) where
 -- the fields of a frame that fits are those of the frame with named fields
 pub head-back : (f : Fields) → Fits HEAD f → ofHead (headOf f) ≡ f
 head-back = present HEAD
-
-pub step-back : (f : Fields) → Fits STEP f → ofStep (stepOf f) ≡ f
-step-back = present STEP
 
 pub dropped-back : (f : Fields) → Fits DROPPED f → ofDropped (droppedOf f) ≡ f
 dropped-back = present DROPPED
@@ -76,26 +86,29 @@ refusal-back = present REFUSAL
 
 pub edge-back : (f : Fields) → Fits EDGE f → ofEdge (edgeOf f) ≡ f
 unfolding costDigits
-edge-back f x = rw (unsigned-signed (digitsOf EDGE 3) (f .fourth) (fits-at EDGE f x 3 (lit< tt))) (present EDGE f x)
+edge-back f x = rw (signed-back EDGE f x 3 (lit< tt)) (present EDGE f x)
+
+pub step-back : (f : Fields) → Fits STEP f → ofStep (stepOf f) ≡ f
+unfolding stepCostDigits
+step-back f x = rw (signed-back STEP f x 4 (lit< tt)) (present STEP f x)
 
 pub span-back : (f : Fields) → Fits SPAN f → ofSpan (spanOf f) ≡ f
 unfolding spanCostDigits
-span-back f x = rw (unsigned-signed (digitsOf SPAN 3) (f .fourth) (fits-at SPAN f x 3 (lit< tt))) (present SPAN f x)
+span-back f x = rw (signed-back SPAN f x 3 (lit< tt)) (present SPAN f x)
 
 pub costs-back : (f : Fields) → Fits COSTS f → ofCosts (costsOf f) ≡ f
 unfolding keptDigits unreservedDigits
-costs-back f x =
-    rw (
-      unsigned-signed (digitsOf COSTS 0) (f .first) (fits-at COSTS f x 0 (lit< tt)),
-      unsigned-signed (digitsOf COSTS 1) (f .second) (fits-at COSTS f x 1 (lit< tt)),
-    )
-    (present COSTS f x)
+costs-back f x = rw (signed-back COSTS f x 0 (lit< tt), signed-back COSTS f x 1 (lit< tt)) (present COSTS f x)
 
 -- a frame with named fields is found again in its fields: without
 -- signed fields by computation, and with them where they have room
 pub edge-found : (e : Edge) → 2 * mag (e .cost) < 16 ^ costDigits → edgeOf (ofEdge e) ≡ e
 unfolding costDigits digitsOf bytesOf padded
 edge-found e h = rw (signed-unsigned costDigits (e .cost) (lit< tt) h)
+
+pub step-found : (s : Step) → 2 * mag (s .cost) < 16 ^ stepCostDigits → stepOf (ofStep s) ≡ s
+unfolding stepCostDigits digitsOf bytesOf padded
+step-found s h = rw (signed-unsigned stepCostDigits (s .cost) (lit< tt) h)
 
 pub span-found : (s : Span) → 2 * mag (s .cost) < 16 ^ spanCostDigits → spanOf (ofSpan s) ≡ s
 unfolding spanCostDigits digitsOf bytesOf padded
@@ -106,3 +119,12 @@ pub costs-found : (c : Costs) → 2 * mag (c .kept) < 16 ^ keptDigits → 2 * ma
 unfolding keptDigits unreservedDigits digitsOf bytesOf padded
 costs-found c h l =
     rw (signed-unsigned keptDigits (c .kept) (lit< tt) h, signed-unsigned unreservedDigits (c .unreserved) (lit< tt) l)
+
+-- sixteen digits have room for every signed number of 64 bits, by its size: what the code asks of one that it spells
+-- in them, as of the cost of kind 03
+pub word-spelt : (d : ℕ) → d ≡ 16 → {n : ℕ} → n < 2 ^ 63 → (0 < d) × (d ≤ 16) × (2 * n < 16 ^ d)
+word-spelt d e h = rw e (lit< tt, omega arith, omega arith)
+
+pub step-cost-spelt : (z : ℤ) → mag z < 2 ^ 63 → 2 * mag z < 16 ^ stepCostDigits
+unfolding stepCostDigits digitsOf bytesOf padded
+step-cost-spelt z h = word-spelt stepCostDigits refl h .2

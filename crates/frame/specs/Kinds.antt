@@ -1,7 +1,7 @@
 -- The frames of each kind with their fields by name, and the fields as a line spells them.
 use mathlib.Core.List.{[], _∷_}
 use Prim.Native.Nat.{ℕ}
-use Rattle.frame.specs.Table.{EDGE, COSTS, SPAN, digitsOf}
+use Rattle.frame.specs.Table.{EDGE, STEP, COSTS, SPAN, digitsOf}
 use Rattle.frame.specs.Line.{fieldsFrom}
 use Rattle.digits.specs.Sign.{signedOf, unsignedOf}
 use Rattle.frame.specs.declared.line.Fields.{Fields}
@@ -22,9 +22,12 @@ headOf f = record { vertices = f .first; reserved = f .second }
 abbrev pub ofHead : Head → Fields
 ofHead h = fieldsFrom (h .vertices ∷ h .reserved ∷ [])
 
--- how many digits the signed fields have: the cost of kind 02, the two of kind 06, and the cost of kind 09
+-- how many digits the signed fields have: the costs of kinds 02 and 03, the two of kind 06, and the cost of kind 09
 unfoldable pub costDigits : ℕ
 costDigits = digitsOf EDGE 3
+
+unfoldable pub stepCostDigits : ℕ
+stepCostDigits = digitsOf STEP 4
 
 unfoldable pub keptDigits : ℕ
 keptDigits = digitsOf COSTS 0
@@ -43,12 +46,19 @@ edgeOf f =
 abbrev pub ofEdge : Edge → Fields
 ofEdge e = fieldsFrom (e .number ∷ e .lower ∷ e .higher ∷ unsignedOf costDigits (e .cost) ∷ [])
 
--- kind 03: v, x and y
+-- kind 03: v, x, y, z and z's new cost
 abbrev pub stepOf : Fields → Step
-stepOf f = record { v = f .first; x = f .second; y = f .third }
+stepOf f =
+    record {
+      v = f .first;
+      x = f .second;
+      y = f .third;
+      z = f .fourth;
+      cost = signedOf stepCostDigits (f .fifth);
+    }
 
 abbrev pub ofStep : Step → Fields
-ofStep s = fieldsFrom (s .v ∷ s .x ∷ s .y ∷ [])
+ofStep s = fieldsFrom (s .v ∷ s .x ∷ s .y ∷ s .z ∷ unsignedOf stepCostDigits (s .cost) ∷ [])
 
 -- kind 04: the dropped cable
 abbrev pub droppedOf : Fields → Dropped

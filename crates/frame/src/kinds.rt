@@ -4,13 +4,14 @@ use super::line::Fields;
 use super::table::COSTS;
 use super::table::EDGE;
 use super::table::SPAN;
+use super::table::STEP;
 use super::table::digits_of;
 use digits::signed_of;
 use digits::unsigned_of;
 ghost use mathlib.Core.Path.{_≡_};
 ghost use Prim.Native.Nat.{_*_, _^_, _<_};
 ghost use lib.Signed.{mag};
-ghost use Rattle.frame.specs.Table.{EDGE, COSTS, SPAN};
+ghost use Rattle.frame.specs.Table.{EDGE, STEP, COSTS, SPAN};
 ghost use Rattle.frame.specs.Line.{Fits};
 ghost use Rattle.frame.specs.Kinds.{headOf, ofHead, edgeOf, ofEdge, costDigits, stepOf, ofStep, droppedOf};
 ghost use Rattle.frame.specs.Kinds.{ofDropped, keptOf, ofKept, costsOf, ofCosts, tableHeadOf, spanOf, refusalIn};
@@ -30,11 +31,13 @@ pub struct Edge {
     pub cost: i64,
 }
 
-// Kind 03: a step, at v with x and y.
+// Kind 03: a step, at v with x and y; z, and z's new cost.
 pub struct Step {
     pub v: u64,
     pub x: u64,
     pub y: u64,
+    pub z: u64,
+    pub cost: i64,
 }
 
 // Kind 04: the edge that the ending drops.
@@ -75,6 +78,8 @@ pub struct Refusal {
 
 // The places of signed fields among a frame's fields.
 const EDGE_COST: usize = 3;
+
+const STEP_COST: usize = 4;
 
 const COSTS_KEPT: usize = 0;
 
@@ -132,12 +137,15 @@ impl Edge {
 
 impl Step {
     pub fn of(f: Fields) -> Self
+        requires { ⌜ Fits STEP f ⌝ }
         ensures { λ r. ⌜ r ≡ stepOf f ⌝ }
     {
         Step {
             v: f.first,
             x: f.second,
             y: f.third,
+            z: f.fourth,
+            cost: signed_of(f.fifth, digits_of(STEP, STEP_COST)),
         }
     }
 
@@ -148,7 +156,8 @@ impl Step {
             first: self.v,
             second: self.x,
             third: self.y,
-            ..ABSENT
+            fourth: self.z,
+            fifth: unsigned_of(self.cost, digits_of(STEP, STEP_COST)),
         }
     }
 }

@@ -6,7 +6,8 @@ use chain_text::write_chain;
 ghost use mathlib.Core.Path.{_≡_};
 ghost use lib.ListN.{length};
 ghost use Rattle.base.specs.Answer.{given, filled, roomIn, after, refusalOf, numberGiven};
-ghost use Rattle.chain_text.specs.Text.{vOf, xOf, yOf, readGiven, writeChain};
+ghost use Rattle.chain_text.specs.Columns.{columns};
+ghost use Rattle.chain_text.specs.Text.{inColumns, readGiven, writeChain};
 
 // Reads a chain text for so many vertices into columns, and gives the edge that its ending drops.
 #[no_mangle]
@@ -16,21 +17,32 @@ pub extern "C" fn thinning_read_chain(
     v: &mut [u16],
     x: &mut [u16],
     y: &mut [u16],
+    z: &mut [u16],
+    cost: &mut [i64],
     dropped: &mut u16,
 ) -> u32
-    ensures number { λ r. ⌜ r ≡ refusalOf
-        (readGiven vertices (now (text .entry)) (now (v .entry)) (now (x .entry)) (now (y .entry))) ⌝ }
-    ensures v { λ r. ⌜ now (v .exit) ≡ filled vOf
-        (readGiven vertices (now (text .entry)) (now (v .entry)) (now (x .entry)) (now (y .entry))) (now (v .entry)) ⌝ }
-    ensures x { λ r. ⌜ now (x .exit) ≡ filled xOf
-        (readGiven vertices (now (text .entry)) (now (v .entry)) (now (x .entry)) (now (y .entry))) (now (x .entry)) ⌝ }
-    ensures y { λ r. ⌜ now (y .exit) ≡ filled yOf
-        (readGiven vertices (now (text .entry)) (now (v .entry)) (now (x .entry)) (now (y .entry))) (now (y .entry)) ⌝ }
-    ensures dropped { λ r. ⌜ now (dropped .exit) ≡ numberGiven (λ m. m .dropped)
-        (readGiven vertices (now (text .entry)) (now (v .entry)) (now (x .entry)) (now (y .entry)))
+    ensures number { λ r. ⌜ r ≡ refusalOf (readGiven vertices (now (text .entry))
+        (columns (now (v .entry)) (now (x .entry)) (now (y .entry)) (now (z .entry)) (now (cost .entry)))) ⌝ }
+    ensures v { λ r. ⌜ now (v .exit) ≡ filled (λ m. inColumns m .v) (readGiven vertices (now (text .entry))
+        (columns (now (v .entry)) (now (x .entry)) (now (y .entry)) (now (z .entry)) (now (cost .entry))))
+        (now (v .entry)) ⌝ }
+    ensures x { λ r. ⌜ now (x .exit) ≡ filled (λ m. inColumns m .x) (readGiven vertices (now (text .entry))
+        (columns (now (v .entry)) (now (x .entry)) (now (y .entry)) (now (z .entry)) (now (cost .entry))))
+        (now (x .entry)) ⌝ }
+    ensures y { λ r. ⌜ now (y .exit) ≡ filled (λ m. inColumns m .y) (readGiven vertices (now (text .entry))
+        (columns (now (v .entry)) (now (x .entry)) (now (y .entry)) (now (z .entry)) (now (cost .entry))))
+        (now (y .entry)) ⌝ }
+    ensures z { λ r. ⌜ now (z .exit) ≡ filled (λ m. inColumns m .z) (readGiven vertices (now (text .entry))
+        (columns (now (v .entry)) (now (x .entry)) (now (y .entry)) (now (z .entry)) (now (cost .entry))))
+        (now (z .entry)) ⌝ }
+    ensures cost { λ r. ⌜ now (cost .exit) ≡ filled (λ m. inColumns m .cost) (readGiven vertices (now (text .entry))
+        (columns (now (v .entry)) (now (x .entry)) (now (y .entry)) (now (z .entry)) (now (cost .entry))))
+        (now (cost .entry)) ⌝ }
+    ensures dropped { λ r. ⌜ now (dropped .exit) ≡ numberGiven (λ m. m .dropped) (readGiven vertices (now (text .entry))
+        (columns (now (v .entry)) (now (x .entry)) (now (y .entry)) (now (z .entry)) (now (cost .entry))))
         (now (dropped .entry)) ⌝ }
 {
-    match read_chain(vertices, text, v, x, y) {
+    match read_chain(vertices, text, v, x, y, z, cost) {
         ReadChain::Refused(number) => number as u32,
         ReadChain::Read {
             steps: _,
@@ -49,18 +61,23 @@ pub extern "C" fn thinning_write_chain(
     v: &[u16],
     x: &[u16],
     y: &[u16],
+    z: &[u16],
+    cost: &[i64],
     dropped: u16,
     text: &mut [u8],
     written: &mut usize,
 ) -> u32
-    ensures number { λ r. ⌜ r ≡ refusalOf (given (roomIn (now (text .entry)))
-        (writeChain vertices (now (v .entry)) (now (x .entry)) (now (y .entry)) dropped)) ⌝ }
-    ensures text { λ r. ⌜ now (text .exit) ≡ after
-        (writeChain vertices (now (v .entry)) (now (x .entry)) (now (y .entry)) dropped) (now (text .entry)) ⌝ }
+    ensures number { λ r. ⌜ r ≡ refusalOf (given (roomIn (now (text .entry))) (writeChain vertices
+        (columns (now (v .entry)) (now (x .entry)) (now (y .entry)) (now (z .entry)) (now (cost .entry))) dropped)) ⌝ }
+    ensures text { λ r. ⌜ now (text .exit) ≡ after (writeChain vertices
+        (columns (now (v .entry)) (now (x .entry)) (now (y .entry)) (now (z .entry)) (now (cost .entry))) dropped)
+        (now (text .entry)) ⌝ }
     ensures written { λ r. ⌜ now (written .exit) ≡ numberGiven length (given (roomIn (now (text .entry)))
-        (writeChain vertices (now (v .entry)) (now (x .entry)) (now (y .entry)) dropped)) (now (written .entry)) ⌝ }
+        (writeChain vertices
+        (columns (now (v .entry)) (now (x .entry)) (now (y .entry)) (now (z .entry)) (now (cost .entry))) dropped))
+        (now (written .entry)) ⌝ }
 {
-    match write_chain(vertices, v, x, y, dropped, text) {
+    match write_chain(vertices, v, x, y, z, cost, dropped, text) {
         Reply::Refused(number) => number as u32,
         Reply::Done(length) => {
             *written = length;

@@ -12,59 +12,63 @@ use Rattle.frame.specs.Line.{lineOf}
 use Rattle.frame.specs.Kinds.{ofStep, ofDropped}
 use Rattle.base.proofs.Writing.{Written, written-none, written-all, written-size}
 use Rattle.frame.proofs.Writing.{line-within, line-room, line-more}
-use Rattle.chain_text.specs.Text.{chainText, stepsOf}
+use Rattle.chain_text.specs.Columns.{Columns, columns}
+use Rattle.chain_text.specs.Text.{chainText, Even, stepsAcross, stepsOf}
 use Rattle.chain_text.proofs.Columns.{textFrom, step-left, ending-left}
 use Rattle.chain_text.proofs.chain.put_chain.Statement.{statement}
 use Rattle.chain_text.proofs.chain.put_chain.Tie as tie
 
 abbrev Inv-loop : tie.InvT-loop
-Inv-loop v x y dropped text₀ at₀ i₀ text at i =
-    (i ≤ length v) × Written (chainText (stepsOf v x y) dropped) (textFrom v x y dropped i) text₀ text at
+Inv-loop v x y z cost dropped text₀ at₀ i₀ text at i =
+    (i ≤ length v)
+    × Written (chainText (stepsOf v x y z cost) dropped) (textFrom (columns v x y z cost) dropped i) text₀ text at
 
 abbrev μ-loop : tie.MeasureT-loop
-μ-loop v x y dropped text₀ at₀ i₀ text at i = length v - i
+μ-loop v x y z cost dropped text₀ at₀ i₀ text at i = length v - i
 
--- the entry, seen from the loop
+-- the entry, seen from the loop, and the columns there, which are equally long
 abbrev entry : tie.At-loop Inv-loop μ-loop → tie.Start Inv-loop μ-loop
-entry c = c .before .before .before .before .before
+entry c = c .before .before .before .before .before .before
+
+abbrev cols : tie.Start Inv-loop μ-loop → Columns
+cols s = let a = s .args in columns (a .v .now) (a .x .now) (a .y .now) (a .z .now) (a .cost .now)
+
+even : (s : tie.Start Inv-loop μ-loop) → Even (length (s .args .v .now)) (cols s)
+even s = record { v = refl; x = s .pre .0; y = s .pre .1; z = s .pre .2; cost = s .pre .3 }
 
 -- the line of a step is left to write, and that of the ending
 step-due : (c : tie.After-step-at Inv-loop μ-loop) →
     let k = c .before .before in
-    let a = entry k .args in
-    Written (chainText (stepsOf (a .v .now) (a .x .now) (a .y .now)) (a .dropped))
-    (lineOf STEP (ofStep (c .step-at .result))
-    ++ textFrom (a .v .now) (a .x .now) (a .y .now) (a .dropped) (k .loop .i + 1))
-    (a .text .now) (k .loop .text) (k .loop .at)
+    let s = entry k in
+    Written (chainText (stepsAcross (cols s)) (s .args .dropped))
+    (lineOf STEP (ofStep (c .step-at .result)) ++ textFrom (cols s) (s .args .dropped) (k .loop .i + 1))
+    (s .args .text .now) (k .loop .text) (k .loop .at)
 step-due c =
     let k = c .before .before in
     let s = entry k in
-    let a = s .args in
     rw (c .step-at .ensures)
-    (step-left (a .v .now) (a .x .now) (a .y .now) (s .pre .0) (s .pre .1) (a .dropped) (k .loop .i) (k .loop .inv .1)
-    (c .before .loop-test .taken))
+    (step-left (cols s) (even s) (s .args .dropped) (k .loop .i) (k .loop .inv .1) (c .before .loop-test .taken))
 
 ending-due : (c : tie.After-loop Inv-loop μ-loop) →
     let k = c .before in
-    let a = entry k .args in
-    Written (chainText (stepsOf (a .v .now) (a .x .now) (a .y .now)) (a .dropped))
-    (lineOf DROPPED (ofDropped (record { edge = a .dropped })) ++ []) (a .text .now) (k .loop .text) (k .loop .at)
+    let s = entry k in
+    Written (chainText (stepsAcross (cols s)) (s .args .dropped))
+    (lineOf DROPPED (ofDropped (record { edge = s .args .dropped })) ++ []) (s .args .text .now) (k .loop .text)
+    (k .loop .at)
 ending-due c =
     let k = c .before in
     let s = entry k in
-    let a = s .args in
-    ending-left (a .v .now) (a .x .now) (a .y .now) (s .pre .0) (s .pre .1) (a .dropped) (k .loop .i) (k .loop .inv .1)
-    (c .loop-test .left)
+    ending-left (cols s) (even s) (s .args .dropped) (k .loop .i) (k .loop .inv .1) (c .loop-test .left)
 
 loop-holds : tie.Need-loop-holds Inv-loop μ-loop
 loop-holds c =
-    let start = c .before .before .before .before in
-    (search needs, written-none _ (start .args .text .now) (start .pre .2))
+    let start = c .before .before .before .before .before in
+    (search needs, written-none _ (start .args .text .now) (start .pre .4))
 
 step-at-requires : tie.Need-step-at-requires Inv-loop μ-loop
 step-at-requires c κs =
-    let s = entry (c .before) in
-    (omega arith, omega (arith, s .pre .0), omega (arith, s .pre .1))
+    let e = even (entry (c .before)) in
+    record { v = omega arith; x = omega arith; y = omega arith; z = omega arith; cost = omega arith }
 
 sub-put-line : tie.Need-sub-put-line Inv-loop μ-loop
 sub-put-line c = omega (arith, written-size _ _ _ _ _ (step-due c))
@@ -82,7 +86,9 @@ put-line-requires : tie.Need-put-line-requires Inv-loop μ-loop
 put-line-requires c κs = (lit< tt, line-room _ _ _ _ _ STEP _ (step-due (c .before .before)))
 
 add-at : tie.Need-add-at Inv-loop μ-loop
-add-at c = omega (arith, line-within _ _ _ _ _ STEP _ (step-due (c .before .before .before .before .before)))
+add-at c =
+    let p = c .before .before .before .before .before in
+    omega (arith, line-within _ _ _ _ _ STEP _ (step-due p), entry (p .before .before) .good)
 
 add-i : tie.Need-add-i Inv-loop μ-loop
 add-i c = search needs
@@ -127,7 +133,7 @@ returns c =
 same-length : tie.Need-same-length Inv-loop μ-loop
 same-length c =
     let start = entry (c .before .before .before .before .before .before) in
-    ap length (returns c .1) ∙ length-over _ _ (start .pre .2)
+    ap length (returns c .1) ∙ length-over _ _ (start .pre .4)
 
 pub put-chain-spec : {M : Type 1} → statement M
 put-chain-spec =

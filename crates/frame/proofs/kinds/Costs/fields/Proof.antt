@@ -1,12 +1,11 @@
 -- `frame::kinds::Costs::fields` meets its contract.
 -- Assumes nothing.
-use native.Mathlib.Omega.{arith}
-use lib.Dec.{lit<}
+use mathlib.Core.Path.{refl}
 use mir.Facts.{toZ-ofZ}
 use borrow.Author.Needs.{needs}
 use Rattle.frame.specs.Table.{COSTS, padded, bytesOf, digitsOf}
 use Rattle.frame.specs.Kinds.{keptDigits, unreservedDigits}
-use Rattle.frame.proofs.Rows.{digits-narrow}
+use Rattle.frame.proofs.Named.{word-spelt}
 use Rattle.frame.proofs.kinds.Costs.fields.Statement.{statement}
 use Rattle.frame.proofs.kinds.Costs.fields.Tie as tie
 
@@ -18,7 +17,7 @@ unfolding digitsOf bytesOf padded
 unsigned-of-requires c κs =
     let l = c .struct-told .given .0 .1 in
     rw (c .before .digits-of .ensures, toZ-ofZ (record { sfits = l }))
-    (lit< tt, digits-narrow COSTS (lit< tt) 0 (lit< tt), omega arith)
+    (word-spelt (digitsOf COSTS 0) refl l)
 
 digits-of-requires-2 : tie.Need-digits-of-requires-2
 digits-of-requires-2 c κs = search needs
@@ -28,7 +27,7 @@ unfolding digitsOf bytesOf padded
 unsigned-of-requires-2 c κs =
     let l = c .struct-told2 .given .1 .0 .1 in
     rw (c .before .digits-of2 .ensures, toZ-ofZ (record { sfits = l }))
-    (lit< tt, digits-narrow COSTS (lit< tt) 1 (lit< tt), omega arith)
+    (word-spelt (digitsOf COSTS 1) refl l)
 
 returns : tie.Need-returns
 unfolding keptDigits unreservedDigits

@@ -5,8 +5,7 @@ use mir.Facts.{toZ-ofZ}
 use borrow.Author.Needs.{needs}
 use Rattle.frame.specs.Table.{COSTS, padded, bytesOf, digitsOf}
 use Rattle.frame.specs.Kinds.{keptDigits, unreservedDigits}
-use Rattle.frame.proofs.Rows.{digits-narrow}
-use Rattle.frame.proofs.Named.{fits-at}
+use Rattle.frame.proofs.Named.{signed-asked}
 use Rattle.frame.proofs.kinds.Costs.of.Statement.{statement}
 use Rattle.frame.proofs.kinds.Costs.of.Tie as tie
 
@@ -17,8 +16,7 @@ signed-of-requires : tie.Need-signed-of-requires
 unfolding digitsOf bytesOf padded
 signed-of-requires c κs =
     let s = c .before in
-    rw (c .digits-of .ensures)
-    (lit< tt, digits-narrow COSTS (lit< tt) 0 (lit< tt), fits-at COSTS (s .args .f) (s .pre) 0 (lit< tt))
+    rw (c .digits-of .ensures) (signed-asked COSTS (s .args .f) (s .pre) (lit< tt) 0 (lit< tt) (lit< tt))
 
 digits-of-requires-2 : tie.Need-digits-of-requires-2
 digits-of-requires-2 c κs = search needs
@@ -27,8 +25,7 @@ signed-of-requires-2 : tie.Need-signed-of-requires-2
 unfolding digitsOf bytesOf padded
 signed-of-requires-2 c κs =
     let s = c .before .before .before in
-    rw (c .digits-of2 .ensures)
-    (lit< tt, digits-narrow COSTS (lit< tt) 1 (lit< tt), fits-at COSTS (s .args .f) (s .pre) 1 (lit< tt))
+    rw (c .digits-of2 .ensures) (signed-asked COSTS (s .args .f) (s .pre) (lit< tt) 1 (lit< tt) (lit< tt))
 
 returns : tie.Need-returns
 unfolding keptDigits unreservedDigits
