@@ -40,7 +40,7 @@ pub struct Shape<const FIELDS: usize> {
     pub fields: [Field; FIELDS],
 }
 
-/// The cost of an edge or of a span.
+/// The cost of an edge, of a span, or of an edge after a step.
 const COST: Field = Field::Signed(8);
 
 /// Count of vertices, reserved edge.
@@ -58,10 +58,16 @@ pub const EDGE: Shape<4> = Shape {
         COST,
     ],
 };
-/// The vertex v, partner x, partner y.
-pub const STEP: Shape<3> = Shape {
+/// The vertex v, partner x, partner y, the third partner z, z's cost after the step.
+pub const STEP: Shape<5> = Shape {
     kind: 0x03,
-    fields: [Field::Unsigned(2), Field::Unsigned(2), Field::Unsigned(2)],
+    fields: [
+        Field::Unsigned(2),
+        Field::Unsigned(2),
+        Field::Unsigned(2),
+        Field::Unsigned(2),
+        COST,
+    ],
 };
 /// Dropped edge.
 pub const ENDING: Shape<1> = Shape {
@@ -205,6 +211,10 @@ mod tests {
         EDGE.read(&mut Lines::new(text))
     }
 
+    fn read_step(text: &[u8]) -> Result<[i64; 5], Refusal> {
+        STEP.read(&mut Lines::new(text))
+    }
+
     fn read_span(text: &[u8]) -> Result<[i64; 4], Refusal> {
         SPAN.read(&mut Lines::new(text))
     }
@@ -213,7 +223,7 @@ mod tests {
     fn lengths_of_the_nine_kinds() {
         assert_eq!(HEAD.line_length(), 11);
         assert_eq!(EDGE.line_length(), 31);
-        assert_eq!(STEP.line_length(), 15);
+        assert_eq!(STEP.line_length(), 35);
         assert_eq!(ENDING.line_length(), 7);
         assert_eq!(LISTED.line_length(), 7);
         assert_eq!(SUMS.line_length(), 35);
@@ -243,6 +253,9 @@ mod tests {
             let mut text = Vec::new();
             EDGE.write([511, 0, 65_535, number], &mut text);
             assert_eq!(read_edge(&text), Ok([511, 0, 65_535, number]));
+            let mut text = Vec::new();
+            STEP.write([0, 65_535, 511, 256, number], &mut text);
+            assert_eq!(read_step(&text), Ok([0, 65_535, 511, 256, number]));
             let mut text = Vec::new();
             SPAN.write([0, 65_535, 255, number], &mut text);
             assert_eq!(read_span(&text), Ok([0, 65_535, 255, number]));
@@ -288,6 +301,23 @@ mod tests {
         ];
         for text in broken {
             assert_eq!(read_edge(text), Err(BROKEN_TEXT));
+        }
+        let step = b"030001000400050001fffffffffffffffe\n";
+        assert_eq!(read_step(step), Ok([1, 4, 5, 1, -2]));
+        let broken: [&[u8]; 8] = [
+            b"030001000400050001fffffffffffffffe",
+            b"030001000400050001FFFFFFFFFFFFFFFE\n",
+            b"030001000400050001fffffffffffffffe00\n",
+            b"030001000400050001fffffffffffff\n",
+            // A cost of four bytes.
+            b"030001000400050001fffffffe\n",
+            // Without the cost, without z, and without both, with frames behind it.
+            b"030001000400050001\n",
+            b"03000100040005fffffffffffffffe\n",
+            b"03000100040005\n03000100040005\n040003\n",
+        ];
+        for text in broken {
+            assert_eq!(read_step(text), Err(BROKEN_TEXT));
         }
         let span = b"09000100020afffffffffffffffa\n";
         assert_eq!(read_span(span), Ok([1, 2, 10, -6]));

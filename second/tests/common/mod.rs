@@ -20,7 +20,7 @@ pub const T: &str = "\
 
 /// What the plan program writes for it.
 pub const T_PLAN: &str = "\
-03000100040005
+030001000400050001fffffffffffffffe
 040003
 050001
 050002
