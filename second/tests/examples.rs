@@ -2,10 +2,10 @@
 
 mod common;
 
-use common::{network_text, T, TWO_ACROSS, T_PLAN};
+use common::{network_text, SQUARE_COSTS, SQUARE_ENDS, T, TWO_ACROSS, T_PLAN};
 use second::{
-    audit, check_chain_by, check_network, check_network_by, plan_by, plan_output,
-    write_chain, write_kept, write_list, Audit, Chain, Kept, Method, Step,
+    audit, check_chain_by, check_network, check_network_by, plan_by, plan_output, write_chain,
+    write_kept, write_list, Audit, Chain, Kept, Method, Step,
 };
 
 /// Steps with v, x, y, z and the cost of z, dropped edge, kept edges, kept cost and total.
@@ -71,17 +71,7 @@ fn the_printed_network_with_other_costs() {
 
 #[test]
 fn four_vertices() {
-    let ends = [
-        (0, 1),
-        (0, 1),
-        (2, 3),
-        (2, 3),
-        (0, 2),
-        (1, 3),
-        (0, 3),
-        (1, 2),
-    ];
-    let network = network_text(4, 4, &ends, &[2, 5, 1, 4, 9, 3, 6, 2]);
+    let network = network_text(4, 4, &SQUARE_ENDS, &SQUARE_COSTS);
     // At vertex 2 the partners are 2, 3 and 7: 7, at 2 less the 4 of edge 3, then runs from 3 to 1.
     // At vertex 3 they are 5, 6 and 7: 6, at 6 less the 3 of edge 5, then runs from 1 to 0. The last
     // three cost 2, 5 and 3.

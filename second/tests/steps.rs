@@ -6,7 +6,7 @@ mod common;
 use std::cell::RefCell;
 use std::collections::BTreeSet;
 
-use common::{network_text, rounds, T};
+use common::{network_text, rounds, SQUARE_COSTS, SQUARE_ENDS, T};
 use second::generate::{
     self, CostStyle, Family, Rng, StepFault, StepPlace, NARROW_STEP, SHORT_STEP, STEP_COST_FIRST,
     STEP_WITHOUT_COST, STEP_WITHOUT_Z,
@@ -51,17 +51,7 @@ fn a_wrong_z_or_a_wrong_cost_is_refused() {
 
 #[test]
 fn retired_edges_and_the_other_end() {
-    let ends = [
-        (0, 1),
-        (0, 1),
-        (2, 3),
-        (2, 3),
-        (0, 2),
-        (1, 3),
-        (0, 3),
-        (1, 2),
-    ];
-    let network = network_text(4, 4, &ends, &[2, 5, 1, 4, 9, 3, 6, 2]);
+    let network = network_text(4, 4, &SQUARE_ENDS, &SQUARE_COSTS);
     let checked = |second: &str| {
         let first = "030002000300020007fffffffffffffffe\n";
         check_chain(&network, [first, second].concat().as_bytes()).err()

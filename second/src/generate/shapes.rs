@@ -10,41 +10,13 @@ pub const NARROW_SPAN: Shape<4> = with_narrow_cost(SPAN);
 /// A step whose cost has four bytes.
 pub const NARROW_STEP: Shape<5> = with_narrow_cost(STEP);
 /// A step with v, x and y alone.
-pub const SHORT_STEP: Shape<3> = Shape {
-    kind: STEP.kind,
-    fields: [STEP.fields[0], STEP.fields[1], STEP.fields[2]],
-};
+pub const SHORT_STEP: Shape<3> = step_with([0, 1, 2]);
 /// A step with z and without its cost.
-pub const STEP_WITHOUT_COST: Shape<4> = Shape {
-    kind: STEP.kind,
-    fields: [
-        STEP.fields[0],
-        STEP.fields[1],
-        STEP.fields[2],
-        STEP.fields[3],
-    ],
-};
+pub const STEP_WITHOUT_COST: Shape<4> = step_with([0, 1, 2, 3]);
 /// A step with the cost of z and without z.
-pub const STEP_WITHOUT_Z: Shape<4> = Shape {
-    kind: STEP.kind,
-    fields: [
-        STEP.fields[0],
-        STEP.fields[1],
-        STEP.fields[2],
-        STEP.fields[4],
-    ],
-};
+pub const STEP_WITHOUT_Z: Shape<4> = step_with([0, 1, 2, 4]);
 /// A step with the cost of z before z: it has the length of a step.
-pub const STEP_COST_FIRST: Shape<5> = Shape {
-    kind: STEP.kind,
-    fields: [
-        STEP.fields[0],
-        STEP.fields[1],
-        STEP.fields[2],
-        STEP.fields[4],
-        STEP.fields[3],
-    ],
-};
+pub const STEP_COST_FIRST: Shape<5> = step_with([0, 1, 2, 4, 3]);
 /// The kind of an edge with the fields of a span.
 pub const EDGE_AS_SPAN: Shape<4> = Shape {
     kind: EDGE.kind,
@@ -55,6 +27,20 @@ pub const SPAN_AS_EDGE: Shape<4> = Shape {
     kind: SPAN.kind,
     fields: EDGE.fields,
 };
+
+/// A step with its fields at these places, in this order.
+const fn step_with<const FIELDS: usize>(places: [usize; FIELDS]) -> Shape<FIELDS> {
+    let mut fields = [STEP.fields[0]; FIELDS];
+    let mut place = 0;
+    while place < FIELDS {
+        fields[place] = STEP.fields[places[place]];
+        place += 1;
+    }
+    Shape {
+        kind: STEP.kind,
+        fields,
+    }
+}
 
 /// The shape with a last field, the cost, of four bytes.
 const fn with_narrow_cost<const FIELDS: usize>(mut shape: Shape<FIELDS>) -> Shape<FIELDS> {
