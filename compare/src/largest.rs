@@ -248,8 +248,8 @@ fn planned(case: &Case) -> Chain {
     second::read_chain(VERTICES, &case.plan.chain).expect("it is a chain")
 }
 
-/// The planner's chain with a fault of its first step, of one in the middle and of its last one; the
-/// faults take turns.
+/// The planner's chain with a fault of its first step, of one in the middle and of its last one;
+/// the faults take turns.
 fn wrong_steps(rng: &mut Rng, case: &Case, place: usize) -> Compared {
     let chain = planned(case);
     let turns = StepPlace::ALL.len() * place..;

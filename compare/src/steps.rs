@@ -8,7 +8,7 @@ use second::Network;
 
 use crate::buffers::{due_length, four};
 use crate::chains::{chain_text, check_into, meets};
-use crate::difference::Compared;
+use crate::difference::{Compared, Words};
 
 /// Larger networks take long, since there is one for each fault and place.
 const MOST_VERTICES: usize = 9;
@@ -29,7 +29,7 @@ pub fn faults(rng: &mut Rng) -> Compared {
     for case in every_fault(rng) {
         let text = generate::text(&case.network);
         let refusal = case.fault.refusal();
-        meets(&text, &"that nothing is wrong", &case.by_rule, None)?;
+        meets(&text, &Words("that nothing is wrong"), &case.by_rule, None)?;
         let aim = (case.fault, case.place, case.family);
         meets(&text, &aim, &case.faulty, Some(refusal))?;
         let kept = second::check_chain(&text, &case.by_rule);
@@ -43,9 +43,10 @@ pub fn faults(rng: &mut Rng) -> Compared {
 }
 
 /// Every fault at every place where a chain can have it, each over a network of its own. The
-/// families take turns.
+/// families take turns, and any of them begins.
 pub fn every_fault(rng: &mut Rng) -> Vec<Case> {
-    let mut families = Family::ALL.into_iter().cycle();
+    let first = rng.below(Family::ALL.len());
+    let mut families = Family::ALL.into_iter().cycle().skip(first);
     let at_every_place = |fault| StepPlace::ALL.map(|place| (fault, place));
     let all = StepFault::ALL.into_iter().flat_map(at_every_place);
     all.filter(|(fault, place)| fault.can_be_at(*place))
@@ -56,7 +57,7 @@ pub fn every_fault(rng: &mut Rng) -> Vec<Case> {
         .collect()
 }
 
-/// A case of this family; what is drawn anew until the fault can be had is all else.
+/// A case of this family: network and chain are drawn anew until the fault can be had.
 fn case(rng: &mut Rng, fault: StepFault, place: StepPlace, family: Family) -> Case {
     let drawn = iter::repeat_with(|| {
         let vertices = rng.between(StepPlace::FEWEST_VERTICES, MOST_VERTICES);

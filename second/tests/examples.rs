@@ -72,9 +72,9 @@ fn the_printed_network_with_other_costs() {
 #[test]
 fn four_vertices() {
     let network = network_text(4, 4, &SQUARE_ENDS, &SQUARE_COSTS);
-    // At vertex 2 the partners are 2, 3 and 7: 7, at 2 less the 4 of edge 3, then runs from 3 to 1.
-    // At vertex 3 they are 5, 6 and 7: 6, at 6 less the 3 of edge 5, then runs from 1 to 0. The last
-    // three cost 2, 5 and 3.
+    // At vertex 2 the partners are 2, 3 and 7: 7 then runs from 3 to 1, at 2 less the 4 of edge 3.
+    // At vertex 3 they are 5, 6 and 7: 6 then runs from 1 to 0, at 6 less the 3 of edge 5. The
+    // last three cost 2, 5 and 3.
     let steps = [(2, 3, 2, 7, -2), (3, 5, 7, 6, 3)];
     assert_planned(&network, 4, (&steps, 1, &[0, 2, 6, 7], 11, 23));
 }

@@ -262,6 +262,7 @@ fn assert_named(network: &Network, chain: &Chain, faulty: &[u8], fault: StepFaul
         StepFault::ZIsReserved => is_z(&|z| z == network.reserved),
         StepFault::ZIsRetired => is_z(&|z| z < edges && !working.has_edge(z)),
         StepFault::ZIsNoEdge => is_z(&|z| z >= edges),
+        StepFault::ZLowBits => is_z(&|z| z >= edges && z % 512 == usize::from(right.z)),
         StepFault::ZIsDistant => is_z(&|z| {
             let partners = working.partners(right.v.into());
             working.has_edge(z) && z != network.reserved && !partners.contains(&z)
@@ -359,8 +360,8 @@ fn behind_a_fault_there_is_nothing_else_or_what_its_name_says() {
 
 #[test]
 fn a_chain_is_read_alone() {
-    // No partner is looked for: the last three are those that no step retires, at the costs that the
-    // steps have named last.
+    // No partner is looked for: the last three are those that no step retires, at the costs that
+    // the steps have named last.
     rounds(200, |rng| {
         let family = rng.pick(&Family::ALL);
         let (network, chain) = chained(rng, family);

@@ -48,6 +48,8 @@ pub enum StepFault {
     ZIsRetired,
     /// There never was such a z.
     ZIsNoEdge,
+    /// There never was such a z, though its low nine bits are right.
+    ZLowBits,
     /// z doesn't end at v.
     ZIsDistant,
     /// The cost stands before z, so that both are read as other numbers.
@@ -84,7 +86,7 @@ pub enum StepFault {
 
 impl StepFault {
     /// Every fault.
-    pub const ALL: [StepFault; 31] = [
+    pub const ALL: [StepFault; 32] = [
         StepFault::CostAbove,
         StepFault::CostBelow,
         StepFault::FlippedCost,
@@ -100,6 +102,7 @@ impl StepFault {
         StepFault::ZIsReserved,
         StepFault::ZIsRetired,
         StepFault::ZIsNoEdge,
+        StepFault::ZLowBits,
         StepFault::ZIsDistant,
         StepFault::CostFirst,
         StepFault::AndVertex,
@@ -234,7 +237,8 @@ fn faulty_line(
     (line != due).then_some(line)
 }
 
-/// The step with a z or a cost that it doesn't give, if the wrong number differs from the right one.
+/// The step with a number of the fault in place of its z or its cost, which may be the right one by
+/// chance.
 fn wrong_number(
     rng: &mut Rng,
     network: &Network,
@@ -263,7 +267,11 @@ fn wrong_number(
         StepFault::ZIsRetired => with_z(as_number(rng.pick_any(&retired(network, working))?)),
         StepFault::ZIsNoEdge => {
             let next = as_number(network.edges.len());
-            with_z(rng.pick(&[next, 512, right.z + 512, right.z + 32_768, NO_NUMBER]))
+            with_z(rng.pick(&[next, next + 1, 512, NO_NUMBER]))
+        }
+        StepFault::ZLowBits => {
+            let any = as_number(512 * rng.between(1, 127));
+            with_z(right.z + rng.pick(&[512, 32_768, any]))
         }
         StepFault::ZIsDistant => with_z(as_number(rng.pick_any(&distant(network, working, v))?)),
         _ => unreachable!("more than a number is wrong"),
