@@ -33,6 +33,7 @@
  *   15  a span's doubled weight is not 1 to 4, or its pair of ends is not above the one before it, by the lower end and
  *       then by the higher one
  *   16  more spans than the network has edges, or doubled weights that do not total as many
+ *   17  a step's z is not the third partner at v, or its cost is not the one after the step
  *
  * A network of n vertices has 2n edges, which are numbered from 0.
  *
@@ -56,7 +57,7 @@ extern "C" {
 
 /* The most bytes that a text has. A buffer of so many is never too short. */
 #define THINNING_NETWORK_TEXT 15883
-#define THINNING_CHAIN_TEXT 3817
+#define THINNING_CHAIN_TEXT 8897
 #define THINNING_KEPT_TEXT 3612
 #define THINNING_LIST_TEXT 3584
 #define THINNING_PAGE_TEXT 18981
@@ -90,8 +91,9 @@ uint32_t thinning_plan_candidates(const uint8_t *network, size_t network_len,
                                   size_t *written);
 
 /* Checks any bytes proposed as a chain over a network text: writes the kept text, and its length in bytes.
- * Refusals: 1 to 7 of the network, as in its check; then 1 and 8 to 12 of the chain, whichever comes first in it;
- * then 13.
+ * A step names v, x and y, the third partner z at v, and the cost of z after the step, its own less that of x.
+ * Refusals: 1 to 7 of the network, as in its check; then 1, 8 to 12 and 17 of the chain, whichever comes first in it,
+ * where 17 of a step comes after its 11; then 13.
  * Room for every chain: kept THINNING_KEPT_TEXT bytes. */
 uint32_t thinning_check_chain(const uint8_t *network, size_t network_len,
                               const uint8_t *chain, size_t chain_len,
@@ -161,24 +163,29 @@ uint32_t thinning_write_network(size_t vertices, size_t reserved,
                                 uint8_t *text, size_t text_len,
                                 size_t *written);
 
-/* Reads a chain text for so many vertices: writes v, x and y of each step, and the edge that the ending drops. Each
- * column gets two elements fewer than there are vertices.
- * Refusals: 2, then 1 of the text, then 13 if a column is too short. The steps are not judged.
+/* Reads a chain text for so many vertices: writes v, x, y, z and the cost of z after the step, for each step, and the
+ * edge that the ending drops. Each column gets two elements fewer than there are vertices.
+ * Refusals: 2, then 1 of the text, then 13 if a column is too short. The steps are not judged, and a cost may be any
+ * number.
  * Room for every chain: THINNING_STEPS elements in each column. */
 uint32_t thinning_read_chain(size_t vertices,
                              const uint8_t *text, size_t text_len,
                              uint16_t *v, size_t v_len,
                              uint16_t *x, size_t x_len,
                              uint16_t *y, size_t y_len,
+                             uint16_t *z, size_t z_len,
+                             int64_t *cost, size_t cost_len,
                              uint16_t *dropped);
 
 /* Writes the chain text of columns, which have two elements fewer than there are vertices, and its length in bytes.
- * Refusals: 2, then 1 for a column of another length, then 13. The steps are not judged.
+ * Refusals: 2, then 1 for a column of another length, then 13. The steps are not judged, and a cost may be any number.
  * Room for every chain: text THINNING_CHAIN_TEXT bytes. */
 uint32_t thinning_write_chain(size_t vertices,
                               const uint16_t *v, size_t v_len,
                               const uint16_t *x, size_t x_len,
                               const uint16_t *y, size_t y_len,
+                              const uint16_t *z, size_t z_len,
+                              const int64_t *cost, size_t cost_len,
                               uint16_t dropped,
                               uint8_t *text, size_t text_len,
                               size_t *written);

@@ -256,15 +256,15 @@ pub fn one_text(
 pub fn lengths<const K: usize>(rng: &mut Rng, due: [usize; K], seldom: bool) -> Vec<[usize; K]> {
     let mut mixture = due;
     for (place, length) in mixture.iter_mut().enumerate() {
-        let more = rng.between(1, 40);
-        *length = rng.pick(&four(more, due[place]));
+        let four = four(rng, due[place]);
+        *length = rng.pick(&four);
     }
     let mut all = vec![due, mixture];
     if seldom {
         return all;
     }
     for place in 0..K {
-        for length in four(rng.between(1, 40), due[place]) {
+        for length in four(rng, due[place]) {
             let mut lengths = due.map(|due| due + rng.pick(&[0, 0, 3]));
             lengths[place] = length;
             all.push(lengths);
@@ -273,7 +273,9 @@ pub fn lengths<const K: usize>(rng: &mut Rng, due: [usize; K], seldom: bool) -> 
     all
 }
 
-fn four(more: usize, due: usize) -> [usize; 4] {
+/// The four lengths of one buffer to which so much is due.
+pub fn four(rng: &mut Rng, due: usize) -> [usize; 4] {
+    let more = rng.between(1, 40);
     [due, due.saturating_sub(1), due + more, 0]
 }
 
@@ -317,6 +319,23 @@ mod tests {
                 all[place] ^= 1;
             };
             assert!(compared(0, None, changed).is_err(), "{place}");
+        }
+    }
+
+    #[test]
+    fn each_of_several_buffers_is_short_exact_and_long_among_others_that_are_enough() {
+        for seed in 0..40 {
+            let mut rng = Rng::new(seed);
+            let all = lengths(&mut rng, [7; 5], false);
+            for place in 0..5 {
+                let enough = |lengths: &&[usize; 5]| {
+                    let mut others = (0..5).filter(|&other| other != place);
+                    others.all(|other| lengths[other] >= 7)
+                };
+                let here: Vec<usize> = all.iter().filter(enough).map(|one| one[place]).collect();
+                assert!([0, 6, 7].iter().all(|length| here.contains(length)));
+                assert!(here.iter().any(|&length| length > 7));
+            }
         }
     }
 

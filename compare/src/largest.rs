@@ -4,16 +4,17 @@
 //! run on a thread with that stack, and the plan program runs as a process with it, each held to
 //! the second program. A call that goes deeper ends the program. Crowded networks, among them ones
 //! whose edges all run between two vertices, come with every fault of their texts and with none.
-//! Each network is planned for a few candidates.
+//! Each network is planned for a few candidates, and its chain is checked with faults of a step.
 
 use std::fmt::Debug;
 use std::thread::{self, Scope, ScopedJoinHandle};
 
 use second::generate::{
-    self, aimed_chain, Aim, CostStyle, Crowd, Family, ListStyle, PrintedCosts, Rng, TableAim,
+    self, aimed_chain, Aim, CostStyle, Crowd, Family, ListStyle, PrintedCosts, Rng, StepFault,
+    StepPlace, TableAim,
 };
 use second::lengths::{candidates_text, LONGEST_NETWORK_TEXT};
-use second::{read_kept, write_chain, Network, Plan, Table};
+use second::{read_kept, write_chain, Chain, Network, Plan, Table};
 
 use crate::difference::{Compared, Difference, Given, Text, Words};
 use crate::{candidates, chains, crowded, lists, networks, pages, program, tables};
@@ -190,6 +191,7 @@ fn services(rng: &mut Rng, case: &Case, place: usize) -> Compared {
     plans(rng, case)?;
     passing_chain(rng, case)?;
     wrong_chain(rng, case, place)?;
+    wrong_steps(rng, case, place)?;
     audits(rng, case)
 }
 
@@ -203,7 +205,7 @@ fn plans(rng: &mut Rng, case: &Case) -> Compared {
     for lengths in [[chain, kept], short] {
         networks::plan_into(rng, &case.text, Ok(&case.plan), lengths)?;
     }
-    networks::judge("plan", &case.text, &case.plan.kept)
+    networks::judge_plan(&case.text, &case.plan)
 }
 
 /// The check of the planner's chain gives the planner's kept text, or 13 a byte short of it.
@@ -236,9 +238,36 @@ fn wrong_chain(rng: &mut Rng, case: &Case, place: usize) -> Compared {
 
 /// The planner's chain, but that it drops the reserved edge.
 fn wrong_ending(case: &Case) -> Vec<u8> {
-    let mut chain = second::read_chain(VERTICES, &case.plan.chain).expect("it is a chain");
+    let mut chain = planned(case);
     chain.dropped = as_number(case.network.reserved);
     write_chain(VERTICES, &chain).expect("it has all its steps")
+}
+
+/// The planner's chain.
+fn planned(case: &Case) -> Chain {
+    second::read_chain(VERTICES, &case.plan.chain).expect("it is a chain")
+}
+
+/// The planner's chain with a fault of its first step, of one in the middle and of its last one;
+/// the faults take turns.
+fn wrong_steps(rng: &mut Rng, case: &Case, place: usize) -> Compared {
+    let chain = planned(case);
+    let turns = StepPlace::ALL.len() * place..;
+    for (turn, step) in turns.zip(StepPlace::ALL) {
+        let faults = StepFault::ALL.into_iter().cycle().skip(turn);
+        let (fault, faulty) = faults
+            .filter(|fault| fault.can_be_at(step))
+            .find_map(|fault| {
+                let faulty = generate::faulty_chain(rng, &case.network, &chain, fault, step)?;
+                Some((fault, faulty))
+            })
+            .expect("some fault can be had");
+        let refusal = fault.refusal();
+        chains::meets(&case.text, &fault, &faulty, Some(refusal))?;
+        let exact = case.plan.kept.len();
+        chains::check_into(rng, &case.text, &faulty, &Err(refusal), exact)?;
+    }
+    Ok(())
 }
 
 /// A chain with a fault that the second program finds; the faults take turns.
@@ -248,7 +277,7 @@ fn aimed(rng: &mut Rng, case: &Case, place: usize) -> Result<Vec<u8>, Difference
         .filter(|aim| aim.refusal().is_some())
         .find_map(|aim| Some((aim, aimed_chain(rng, &case.network, aim)?)))
         .expect("some fault can be had");
-    chains::meets(&case.text, aim, &aimed)?;
+    chains::meets(&case.text, &aim, &aimed.chain, aimed.refusal)?;
     Ok(aimed.chain)
 }
 

@@ -26,6 +26,7 @@ mod networks;
 mod pages;
 mod program;
 mod rounds;
+mod steps;
 mod tables;
 mod vectors;
 

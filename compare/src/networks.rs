@@ -2,7 +2,7 @@
 
 use second::generate::{self, NetworkAim, Rng};
 use second::lengths::LONGEST_NETWORK_TEXT;
-use second::properties::judge_kept;
+use second::properties::{judge_chain, judge_kept};
 use second::{columns, Network, Plan, Refusal};
 use thinning::raw;
 
@@ -68,7 +68,13 @@ pub fn plan(rng: &mut Rng, text: &[u8], seldom: bool) -> Compared {
     for lengths in plan_lengths(rng, due, seldom) {
         plan_into(rng, text, due, lengths)?;
     }
-    due.map_or(Ok(()), |plan| judge("plan", text, &plan.kept))
+    due.map_or(Ok(()), |plan| judge_plan(text, plan))
+}
+
+/// What is promised of every plan.
+pub fn judge_plan(network: &[u8], plan: &Plan) -> Compared {
+    judge("plan", network, &plan.kept)?;
+    judge_steps("plan", network, &plan.chain)
 }
 
 /// The planner with buffers of these lengths, where this plan or this refusal is due.
@@ -132,6 +138,15 @@ pub fn judge(service: &'static str, network: &[u8], kept: &[u8]) -> Compared {
         let given: &Given = &[("network", &Text(network))];
         let due = Words("a kept text that keeps what is promised of it");
         Difference::new(service, fault, given, &due, &Text(kept))
+    })
+}
+
+/// What is promised of every chain that passes, judged without a cut.
+pub fn judge_steps(service: &'static str, network: &[u8], chain: &[u8]) -> Compared {
+    judge_chain(network, chain).map_err(|fault| {
+        let given: &Given = &[("network", &Text(network))];
+        let due = Words("a chain whose steps name the edges at their vertices and right costs");
+        Difference::new(service, fault, given, &due, &Text(chain))
     })
 }
 

@@ -6,13 +6,15 @@ use std::panic::{self, AssertUnwindSafe};
 use second::generate::Rng;
 
 use crate::difference::{Compared, Difference, Words};
-use crate::{candidates, chains, costs, crowded, lists, networks, pages, program, tables, vectors};
+use crate::{
+    candidates, chains, costs, crowded, lists, networks, pages, program, steps, tables, vectors,
+};
 
 /// A part of a round and its name.
 type Part = (&'static str, fn(&mut Rng) -> Compared);
 
 /// New parts stand last, so that those before them keep their numbers.
-const PARTS: [Part; 24] = [
+const PARTS: [Part; 26] = [
     ("program", program::plan),
     ("network-texts", networks::texts),
     ("network-columns", networks::columns),
@@ -37,6 +39,8 @@ const PARTS: [Part; 24] = [
     ("candidates", candidates::lists),
     ("candidate-refusals", candidates::refusals),
     ("candidate-vectors", vectors::candidates),
+    ("step-faults", steps::faults),
+    ("chain-columns", chains::columns),
 ];
 
 /// Runs all rounds, and says how many differences were met.
@@ -118,13 +122,16 @@ impl Progress {
 
 #[cfg(test)]
 mod tests {
+    use std::cmp::Ordering;
     use std::collections::{BTreeMap, BTreeSet};
 
     use second::audit::audit_list;
+    use second::columns::write_chain;
     use second::generate::{
-        self, EDGE_AS_SPAN, MANY_CANDIDATES, NARROW_EDGE, NARROW_SPAN, SPAN_AS_EDGE,
+        self, Family, StepColumn, StepFault, StepPlace, EDGE_AS_SPAN, MANY_CANDIDATES, NARROW_EDGE,
+        NARROW_SPAN, SPAN_AS_EDGE,
     };
-    use second::lengths::{candidates_text, fits};
+    use second::lengths::{candidates_text, fits, step_column};
     use second::lines::{Lines, Shape, EDGE, HEAD, SPAN, TABLE_HEAD};
     use second::texts::COST_LIMIT;
     use second::Network;
@@ -330,6 +337,72 @@ mod tests {
             assert!(lists.iter().any(|list| list.len() == MANY_CANDIDATES));
             assert!(lists.iter().any(|list| different(list) < list.len()));
             assert!(few.iter().all(|list| !list.is_empty()));
+        }
+    }
+
+    /// What the check of a chain with a fault of a step answers: for the fault itself, for an earlier
+    /// one, and for its form.
+    const STEP_ANSWERS: [u8; 6] = [1, 8, 9, 10, 11, 17];
+
+    #[test]
+    fn every_round_has_every_fault_of_a_step_with_its_refusal() {
+        let at_every_place = |fault| StepPlace::ALL.map(|place| (fault, place));
+        let due: BTreeSet<_> = StepFault::ALL
+            .into_iter()
+            .flat_map(at_every_place)
+            // Before the first step no edge has retired.
+            .filter(|&pair| pair != (StepFault::ZIsRetired, StepPlace::First))
+            .map(|(fault, place)| (fault, place, fault.refusal()))
+            .collect();
+        for (part, mut rng) in (1..=40).flat_map(parts) {
+            if part.0 != "step-faults" {
+                continue;
+            }
+            let (mut met, mut met_by_rule) = (BTreeSet::new(), BTreeSet::new());
+            let (mut families, mut higher) = (Vec::new(), BTreeSet::new());
+            for case in steps::every_fault(&mut rng) {
+                let text = generate::text(&case.network);
+                let answer = |chain: &[u8]| second::check_chain(&text, chain).err().unwrap_or(0);
+                met.insert((case.fault, case.place, answer(&case.faulty)));
+                met_by_rule.insert(answer(&case.by_rule));
+                families.push(case.family);
+                let edge = case.network.edges[case.network.reserved];
+                let chain = second::read_chain(case.network.vertices, &case.by_rule);
+                higher.insert(chain.expect("it is a chain").steps[0].v == edge.high);
+            }
+            assert_eq!(met, due);
+            let answers: BTreeSet<u8> = met.iter().map(|&(_, _, answer)| answer).collect();
+            assert_eq!(answers, BTreeSet::from(STEP_ANSWERS));
+            assert_eq!(met_by_rule, BTreeSet::from([0]));
+            assert!(Family::ALL.iter().all(|family| families.contains(family)));
+            // The first step is at either end.
+            assert_eq!(higher, BTreeSet::from([false, true]));
+        }
+    }
+
+    #[test]
+    fn every_round_has_each_column_of_steps_short_exact_and_long() {
+        for (part, mut rng) in (1..=40).flat_map(parts) {
+            if part.0 != "chain-columns" {
+                continue;
+            }
+            let mut met = BTreeSet::new();
+            for given in chains::every_column(&mut rng) {
+                let due = step_column(given.vertices);
+                let answer = write_chain(given.vertices, &given.steps, given.dropped).err();
+                let lengths = StepColumn::ALL.map(|column| column.length(&given.steps).cmp(&due));
+                met.insert((lengths, answer));
+            }
+            let whole = [Ordering::Equal; 5];
+            let mut every = BTreeSet::from([(whole, None)]);
+            for place in 0..5 {
+                for length in [Ordering::Less, Ordering::Greater] {
+                    let mut lengths = whole;
+                    lengths[place] = length;
+                    every.insert((lengths, Some(1)));
+                }
+            }
+            assert_eq!(met, every);
         }
     }
 

@@ -2,12 +2,15 @@
 
 use std::fmt::Debug;
 
+use second::columns::{self, StepColumns};
 use second::generate::{self, chain_by_rule, changed_chain, CandidateStyle, Rng, WrongPlace};
-use second::{columns, Refusal};
+use second::Refusal;
 
+use crate::chains::chain_text;
 use crate::costs::some_vertices;
 use crate::difference::{Compared, Difference, Given, Text};
 use crate::networks::{any_text, MANY_VERTICES};
+use crate::steps;
 use crate::tables::every_sort;
 
 /// The same answer from both, or refusals with the same number.
@@ -72,33 +75,37 @@ pub fn chains(rng: &mut Rng) -> Compared {
     let vertices = generate::size(rng).min(MANY_VERTICES);
     let network = generate::network(rng, vertices);
     let text = generate::text(&network);
-    let by_rule = second::write_chain(vertices, &chain_by_rule(rng, &network))
-        .expect("the chain has all its steps");
-    for chain in [by_rule, changed_chain(rng, &network)] {
+    let by_rule = chain_text(vertices, &chain_by_rule(rng, &network));
+    let mut chains = vec![by_rule, changed_chain(rng, &network)];
+    chains.extend(steps::any_fault(rng, &network).map(|(_, faulty)| faulty));
+    for chain in chains {
         let shown: &Given = &[("network", &Text(&text)), ("chain", &Text(&chain))];
         let kept = thinning::check_chain(&text, &chain).map(Text);
         let due = second::check_chain(&text, &chain).map(Text);
         same("chain check", shown, kept, due)?;
-        let due = second::read_chain(vertices, &chain).map(|chain| thinning::Chain {
-            v: chain.steps.iter().map(|step| step.v).collect(),
-            x: chain.steps.iter().map(|step| step.x).collect(),
-            y: chain.steps.iter().map(|step| step.y).collect(),
-            dropped: chain.dropped,
-        });
+        let due = second::read_chain(vertices, &chain)
+            .map(|chain| of_columns(StepColumns::of(&chain.steps), chain.dropped));
         let read = thinning::read_chain(vertices, &chain);
         same("chain reader", shown, read, due)?;
     }
     let given = generate::chain_columns(rng);
-    let due = columns::write_chain(given.vertices, &given.v, &given.x, &given.y, given.dropped);
-    let chain = thinning::Chain {
-        v: given.v,
-        x: given.x,
-        y: given.y,
-        dropped: given.dropped,
-    };
+    let due = columns::write_chain(given.vertices, &given.steps, given.dropped);
+    let chain = of_columns(given.steps, given.dropped);
     let text = thinning::write_chain(given.vertices, &chain).map(Text);
     let shown: &Given = &[("vertices", &given.vertices), ("chain", &chain)];
     same("chain writer", shown, text, due.map(Text))
+}
+
+fn of_columns(steps: StepColumns, dropped: u16) -> thinning::Chain {
+    let StepColumns { v, x, y, z, cost } = steps;
+    thinning::Chain {
+        v,
+        x,
+        y,
+        z,
+        cost,
+        dropped,
+    }
 }
 
 /// Reader and writer of lists, and the audit.

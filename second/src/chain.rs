@@ -3,10 +3,10 @@
 use crate::lines::Lines;
 use crate::network::{read_accepted, Method};
 use crate::refusal::{
-    Refusal, BAD_DROP, NOT_ADMISSIBLE, NOT_PARTNERS, NOT_RESERVED_END, X_CHEAPER,
+    Refusal, BAD_DROP, NOT_ADMISSIBLE, NOT_GIVEN, NOT_PARTNERS, NOT_RESERVED_END, X_CHEAPER,
 };
 use crate::texts::{read_ending, read_step, write_chain, write_kept, Chain, Kept, Network, Step};
-use crate::working::Working;
+use crate::working::{as_number, Working};
 
 /// What the planner writes.
 #[derive(Clone, Debug, PartialEq, Eq)]
@@ -15,14 +15,6 @@ pub struct Plan {
     pub chain: Vec<u8>,
     /// The kept text.
     pub kept: Vec<u8>,
-}
-
-/// The edge numbers that a step leaves behind for going back.
-#[derive(Clone, Copy, Debug)]
-struct Trace {
-    x: usize,
-    y: usize,
-    z: usize,
 }
 
 /// Plans the network of a text.
@@ -43,7 +35,6 @@ pub(crate) fn plan_texts(network: &Network, method: Method) -> Result<Plan, Refu
 pub fn plan_network(network: &Network, method: Method) -> (Chain, Kept) {
     let mut working = Working::new(network);
     let mut steps = Vec::new();
-    let mut traces = Vec::new();
     while working.vertices_left() > 2 {
         let ends = working.reserved_ends();
         let v = ends.0.max(ends.1);
@@ -59,20 +50,16 @@ pub fn plan_network(network: &Network, method: Method) -> (Chain, Kept) {
         } else {
             (higher, lower)
         };
-        let z = working.split(v, x, y);
-        steps.push(Step {
-            v: as_number(v),
-            x: as_number(x),
-            y: as_number(y),
-        });
-        traces.push(Trace { x, y, z });
+        let step = working.step(v, x, y);
+        working.split(step);
+        steps.push(step);
     }
     let last_three = working.partners(working.reserved_ends().0);
     let dropped = *last_three
         .iter()
         .max_by_key(|&&edge| (working.cost(edge), edge))
         .expect("three edges are left");
-    let kept = go_back(network, &last_three, dropped, &traces);
+    let kept = go_back(network, &last_three, dropped, &steps);
     let chain = Chain {
         steps,
         dropped: as_number(dropped),
@@ -89,13 +76,12 @@ pub fn check_chain_by(
     let network = read_accepted(network_text, method)?;
     let mut working = Working::new(&network);
     let mut lines = Lines::new(chain_text);
-    let mut traces = Vec::new();
+    let mut steps = Vec::new();
     while working.vertices_left() > 2 {
         let step = read_step(&mut lines)?;
         check_step(&working, step, method)?;
-        let (x, y) = (usize::from(step.x), usize::from(step.y));
-        let z = working.split(step.v.into(), x, y);
-        traces.push(Trace { x, y, z });
+        working.split(step);
+        steps.push(step);
     }
     let dropped = usize::from(read_ending(&mut lines)?);
     let last_three = working.partners(working.reserved_ends().0);
@@ -104,15 +90,10 @@ pub fn check_chain_by(
         return Err(BAD_DROP);
     }
     lines.finish()?;
-    Ok(write_kept(&go_back(
-        &network,
-        &last_three,
-        dropped,
-        &traces,
-    )))
+    Ok(write_kept(&go_back(&network, &last_three, dropped, &steps)))
 }
 
-/// Whether a step keeps the rules: refusals 8 to 11 in their order.
+/// Whether a step keeps the rules: refusals 8 to 11 in their order, then 17.
 pub fn check_step(working: &Working, step: Step, method: Method) -> Result<(), Refusal> {
     let v = usize::from(step.v);
     let (x, y) = (usize::from(step.x), usize::from(step.y));
@@ -130,18 +111,21 @@ pub fn check_step(working: &Working, step: Step, method: Method) -> Result<(), R
     if working.cost(x) < working.cost(y) {
         return Err(X_CHEAPER);
     }
+    if step != working.step(v, x, y) {
+        return Err(NOT_GIVEN);
+    }
     Ok(())
 }
 
 /// The kept edges of a chain by rule, with their cost and the total.
-fn go_back(network: &Network, last_three: &[usize], dropped: usize, traces: &[Trace]) -> Kept {
+fn go_back(network: &Network, last_three: &[usize], dropped: usize, steps: &[Step]) -> Kept {
     let mut is_kept = vec![false; network.edges.len()];
     for &edge in last_three {
         is_kept[edge] = edge != dropped;
     }
-    for trace in traces.iter().rev() {
-        is_kept[trace.y] = true;
-        is_kept[trace.x] = !is_kept[trace.z];
+    for step in steps.iter().rev() {
+        is_kept[usize::from(step.y)] = true;
+        is_kept[usize::from(step.x)] = !is_kept[usize::from(step.z)];
     }
     let kept_numbers = (0..is_kept.len()).filter(|&edge| is_kept[edge]);
     let reserved_cost = network.edges[network.reserved].cost;
@@ -150,9 +134,4 @@ fn go_back(network: &Network, last_three: &[usize], dropped: usize, traces: &[Tr
         edges: kept_numbers.map(as_number).collect(),
         total: network.edges.iter().map(|edge| edge.cost).sum::<i64>() - reserved_cost,
     }
-}
-
-/// A vertex or an edge as the number in a frame.
-fn as_number(place: usize) -> u16 {
-    u16::try_from(place).expect("numbers of vertices and edges have two bytes")
 }

@@ -24,22 +24,56 @@ pub fn write_network(
     write_network_rows(vertices, reserved, &rows, longest)
 }
 
-/// Writes a chain text from columns of v, x and y, and the dropped edge.
+/// The columns of a chain's steps.
+#[derive(Clone, Debug, Default, PartialEq, Eq)]
+pub struct StepColumns {
+    /// The vertices that leave.
+    pub v: Vec<u16>,
+    /// The partners x.
+    pub x: Vec<u16>,
+    /// The partners y.
+    pub y: Vec<u16>,
+    /// The third partners.
+    pub z: Vec<u16>,
+    /// The costs of the third partners after the steps.
+    pub cost: Vec<i64>,
+}
+
+impl StepColumns {
+    /// The columns of whole rows.
+    pub fn of(steps: &[Step]) -> Self {
+        StepColumns {
+            v: steps.iter().map(|step| step.v).collect(),
+            x: steps.iter().map(|step| step.x).collect(),
+            y: steps.iter().map(|step| step.y).collect(),
+            z: steps.iter().map(|step| step.z).collect(),
+            cost: steps.iter().map(|step| step.cost).collect(),
+        }
+    }
+
+    /// The rows that all columns have.
+    pub fn rows(&self) -> Vec<Step> {
+        let numbers = self.v.iter().zip(&self.x).zip(&self.y).zip(&self.z);
+        numbers
+            .zip(&self.cost)
+            .map(|((((&v, &x), &y), &z), &cost)| Step { v, x, y, z, cost })
+            .collect()
+    }
+
+    /// How many entries the longest column has.
+    fn longest(&self) -> usize {
+        let numbers = [&self.v, &self.x, &self.y, &self.z].map(Vec::len);
+        numbers.into_iter().fold(self.cost.len(), usize::max)
+    }
+}
+
+/// Writes a chain text from the columns of its steps and the dropped edge.
 pub fn write_chain(
     vertices: usize,
-    v: &[u16],
-    x: &[u16],
-    y: &[u16],
+    columns: &StepColumns,
     dropped: u16,
 ) -> Result<Vec<u8>, Refusal> {
-    let rows: Vec<Step> = v
-        .iter()
-        .zip(x)
-        .zip(y)
-        .map(|((&v, &x), &y)| Step { v, x, y })
-        .collect();
-    let longest = v.len().max(x.len()).max(y.len());
-    write_chain_rows(vertices, &rows, longest, dropped)
+    write_chain_rows(vertices, &columns.rows(), columns.longest(), dropped)
 }
 
 #[cfg(test)]
@@ -76,10 +110,41 @@ mod tests {
         assert_eq!(write_network(2, 0, &low, &high, &cost), Err(BROKEN_TEXT));
         let dear = [1, 2, 3, -COST_LIMIT - 1];
         assert_eq!(write_network(2, 0, &low, &high, &dear), Err(BAD_COST));
-        assert_eq!(write_chain(2, &[], &[], &[7], 1), Err(BROKEN_TEXT));
-        assert_eq!(
-            write_chain(3, &[1], &[4], &[5], 3),
-            Ok(b"03000100040005\n040003\n".to_vec())
-        );
+    }
+
+    /// The only step of the printed chain.
+    const STEP: Step = Step {
+        v: 1,
+        x: 4,
+        y: 5,
+        z: 1,
+        cost: -2,
+    };
+
+    #[test]
+    fn every_column_of_a_chain_has_the_same_length() {
+        let whole = StepColumns::of(&[STEP]);
+        let text = b"030001000400050001fffffffffffffffe\n040003\n".to_vec();
+        assert_eq!(whole.rows(), [STEP]);
+        assert_eq!(write_chain(3, &whole, 3), Ok(text));
+        let changes: [fn(&mut StepColumns, usize); 5] = [
+            |columns, length| columns.v.resize(length, 1),
+            |columns, length| columns.x.resize(length, 4),
+            |columns, length| columns.y.resize(length, 5),
+            |columns, length| columns.z.resize(length, 1),
+            |columns, length| columns.cost.resize(length, -2),
+        ];
+        for change in changes {
+            for length in [0, 2] {
+                let mut columns = whole.clone();
+                change(&mut columns, length);
+                assert_eq!(write_chain(3, &columns, 3), Err(BROKEN_TEXT));
+            }
+            let mut columns = StepColumns::default();
+            change(&mut columns, 1);
+            assert_eq!(write_chain(2, &columns, 3), Err(BROKEN_TEXT));
+        }
+        let none = StepColumns::default();
+        assert_eq!(write_chain(2, &none, 3), Ok(b"040003\n".to_vec()));
     }
 }

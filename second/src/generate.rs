@@ -14,6 +14,7 @@ mod networks;
 mod pages;
 mod rng;
 mod shapes;
+mod steps;
 mod tables;
 
 pub use candidates::{
@@ -24,12 +25,19 @@ pub use costs::{CostAim, CostStyle};
 pub use crowded::{crowded_network, faulty_text, Crowd, FrameFault, FEWEST_CROWDING};
 pub use damage::{damage, Damage};
 pub use lists::{aimed_list, broken_list, list, list_of, ListStyle};
-pub use meanings::{chain_columns, list_meaning, network_columns, ChainColumns, NetworkColumns};
+pub use meanings::{
+    chain_columns, list_meaning, network_columns, whole_chain_columns, ChainColumns,
+    NetworkColumns, StepColumn,
+};
 pub use networks::{
     aimed_network, broken_network, dress, frames, loose_network, network, network_of, size, text,
     Family, NetworkAim, Shapeless,
 };
 pub use pages::PrintedCosts;
 pub use rng::Rng;
-pub use shapes::{EDGE_AS_SPAN, NARROW_EDGE, NARROW_SPAN, SPAN_AS_EDGE};
+pub use shapes::{
+    EDGE_AS_SPAN, NARROW_EDGE, NARROW_SPAN, NARROW_STEP, SHORT_STEP, SPAN_AS_EDGE, STEP_COST_FIRST,
+    STEP_WITHOUT_COST, STEP_WITHOUT_Z,
+};
+pub use steps::{faulty_chain, StepFault, StepPlace};
 pub use tables::{aimed_table, loose_table, table, table_frames, table_of, table_text, TableAim};

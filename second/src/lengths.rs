@@ -82,7 +82,8 @@ mod tests {
     #[test]
     fn longest_texts() {
         assert_eq!(LONGEST_NETWORK_TEXT, 15_883);
-        assert_eq!(LONGEST_CHAIN_TEXT, 3_817);
+        assert_eq!(LONGEST_CHAIN_TEXT, 8_897);
+        assert_eq!([2, 3].map(chain_text), [7, 42]);
         assert_eq!(LONGEST_LIST_TEXT, 3_584);
         assert_eq!(LONGEST_PAGE, 18_981);
         assert_eq!(LONGEST_TABLE_TEXT, 14_863);

@@ -68,7 +68,7 @@ pub fn plan_candidates(network: &[u8], reserved: &[u16]) -> Result<Vec<u8>, Refu
     plan_candidates_by(network, reserved, Method::Mixed)
 }
 
-/// Checks any bytes as a chain over a network text: the kept text, or refusals 1 to 12.
+/// Checks any bytes as a chain over a network text: the kept text, or refusals 1 to 12 and 17.
 pub fn check_chain(network: &[u8], chain: &[u8]) -> Result<Vec<u8>, Refusal> {
     check_chain_by(network, chain, Method::Mixed)
 }

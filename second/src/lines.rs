@@ -40,7 +40,7 @@ pub struct Shape<const FIELDS: usize> {
     pub fields: [Field; FIELDS],
 }
 
-/// The cost of an edge or of a span.
+/// The cost of an edge, of a span, or of an edge after a step.
 const COST: Field = Field::Signed(8);
 
 /// Count of vertices, reserved edge.
@@ -58,10 +58,16 @@ pub const EDGE: Shape<4> = Shape {
         COST,
     ],
 };
-/// The vertex v, partner x, partner y.
-pub const STEP: Shape<3> = Shape {
+/// The vertex v, partner x, partner y, the third partner z, z's cost after the step.
+pub const STEP: Shape<5> = Shape {
     kind: 0x03,
-    fields: [Field::Unsigned(2), Field::Unsigned(2), Field::Unsigned(2)],
+    fields: [
+        Field::Unsigned(2),
+        Field::Unsigned(2),
+        Field::Unsigned(2),
+        Field::Unsigned(2),
+        COST,
+    ],
 };
 /// Dropped edge.
 pub const ENDING: Shape<1> = Shape {
@@ -201,19 +207,33 @@ fn push_byte(byte: u8, text: &mut Vec<u8>) {
 mod tests {
     use super::*;
 
-    fn read_edge(text: &[u8]) -> Result<[i64; 4], Refusal> {
-        EDGE.read(&mut Lines::new(text))
+    /// The fields on the first line of a text.
+    fn read<const FIELDS: usize>(
+        shape: Shape<FIELDS>,
+        text: &[u8],
+    ) -> Result<[i64; FIELDS], Refusal> {
+        shape.read(&mut Lines::new(text))
     }
 
-    fn read_span(text: &[u8]) -> Result<[i64; 4], Refusal> {
-        SPAN.read(&mut Lines::new(text))
+    /// What is written for such fields is read again.
+    fn assert_read_again<const FIELDS: usize>(shape: Shape<FIELDS>, fields: [i64; FIELDS]) {
+        let mut text = Vec::new();
+        shape.write(fields, &mut text);
+        assert_eq!(read(shape, &text), Ok(fields));
+    }
+
+    /// None of these texts begins with a frame of the shape.
+    fn assert_broken<const FIELDS: usize>(shape: Shape<FIELDS>, texts: &[&[u8]]) {
+        for text in texts {
+            assert_eq!(read(shape, text), Err(BROKEN_TEXT));
+        }
     }
 
     #[test]
     fn lengths_of_the_nine_kinds() {
         assert_eq!(HEAD.line_length(), 11);
         assert_eq!(EDGE.line_length(), 31);
-        assert_eq!(STEP.line_length(), 15);
+        assert_eq!(STEP.line_length(), 35);
         assert_eq!(ENDING.line_length(), 7);
         assert_eq!(LISTED.line_length(), 7);
         assert_eq!(SUMS.line_length(), 35);
@@ -240,15 +260,10 @@ mod tests {
     #[test]
     fn what_is_written_is_read_again() {
         for number in NUMBERS {
-            let mut text = Vec::new();
-            EDGE.write([511, 0, 65_535, number], &mut text);
-            assert_eq!(read_edge(&text), Ok([511, 0, 65_535, number]));
-            let mut text = Vec::new();
-            SPAN.write([0, 65_535, 255, number], &mut text);
-            assert_eq!(read_span(&text), Ok([0, 65_535, 255, number]));
-            let mut text = Vec::new();
-            SUMS.write([number, -1], &mut text);
-            assert_eq!(SUMS.read(&mut Lines::new(&text)), Ok([number, -1]));
+            assert_read_again(EDGE, [511, 0, 65_535, number]);
+            assert_read_again(STEP, [0, 65_535, 511, 256, number]);
+            assert_read_again(SPAN, [0, 65_535, 255, number]);
+            assert_read_again(SUMS, [number, -1]);
         }
     }
 
@@ -268,8 +283,8 @@ mod tests {
     #[test]
     fn faults_of_form() {
         let edge = b"02000000010002fffffffffffffffa\n";
-        assert_eq!(read_edge(edge), Ok([0, 1, 2, -6]));
-        let broken: [&[u8]; 14] = [
+        assert_eq!(read(EDGE, edge), Ok([0, 1, 2, -6]));
+        let broken: &[&[u8]] = &[
             b"",
             b"\n",
             b"02000000010002fffffffffffffffa",
@@ -286,12 +301,25 @@ mod tests {
             b"02000000010002fffffffa\n",
             b"02000000010002fffffffa\n02000100010002fffffffa\n",
         ];
-        for text in broken {
-            assert_eq!(read_edge(text), Err(BROKEN_TEXT));
-        }
+        assert_broken(EDGE, broken);
+        let step = b"030001000400050001fffffffffffffffe\n";
+        assert_eq!(read(STEP, step), Ok([1, 4, 5, 1, -2]));
+        let broken: &[&[u8]] = &[
+            b"030001000400050001fffffffffffffffe",
+            b"030001000400050001FFFFFFFFFFFFFFFE\n",
+            b"030001000400050001fffffffffffffffe00\n",
+            b"030001000400050001fffffffffffff\n",
+            // A cost of four bytes.
+            b"030001000400050001fffffffe\n",
+            // Without the cost, without z, and without both, with frames behind it.
+            b"030001000400050001\n",
+            b"03000100040005fffffffffffffffe\n",
+            b"03000100040005\n03000100040005\n040003\n",
+        ];
+        assert_broken(STEP, broken);
         let span = b"09000100020afffffffffffffffa\n";
-        assert_eq!(read_span(span), Ok([1, 2, 10, -6]));
-        let broken: [&[u8]; 5] = [
+        assert_eq!(read(SPAN, span), Ok([1, 2, 10, -6]));
+        let broken: &[&[u8]] = &[
             b"09000100020afffffffffffffffa",
             b"09000100020afffffffffffffffa00\n",
             b"09000100020afffffffffffff\n",
@@ -299,8 +327,6 @@ mod tests {
             b"09000100020afffffffa\n",
             b"09000100020afffffffa\n09000100030afffffffa\n",
         ];
-        for text in broken {
-            assert_eq!(read_span(text), Err(BROKEN_TEXT));
-        }
+        assert_broken(SPAN, broken);
     }
 }

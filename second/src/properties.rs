@@ -1,12 +1,16 @@
-//! What holds of every kept text, checked without the chain it came from, of the sums of every
-//! candidate, checked without a plan, and of every page, checked without printing one.
+//! What holds of every kept text, checked without the chain it came from, of every chain that
+//! passes, checked without judging a cut, of the sums of every candidate, checked without a plan,
+//! and of every page, checked without printing one.
+
+use std::collections::BTreeMap;
 
 use crate::candidates::{read_candidates, Sums};
 use crate::cuts::Multigraph;
 use crate::network::Method;
 use crate::page::{read_page, Page};
 use crate::tables::{read_table, table_network, Table};
-use crate::texts::{read_kept, read_list, read_network, Edge, Network};
+use crate::texts::{read_chain, read_kept, read_list, read_network, Edge, Network, Step};
+use crate::working::as_number;
 
 /// Says what is wrong with a kept text over an accepted network, if anything is.
 ///
@@ -36,6 +40,62 @@ pub fn judge_kept(network_text: &[u8], kept_text: &[u8]) -> Result<(), String> {
     if !every_cut_has_two(&network, &numbers) {
         return Err("a cut is crossed by fewer than two kept edges".to_owned());
     }
+    Ok(())
+}
+
+/// Says what is wrong with a chain text over an accepted network, if anything is.
+///
+/// Looked at: form; at each step, that the reserved edge, x, y and z are the edges at v, that x
+/// doesn't cost less than y, and that the cost of z becomes its own less that of x; at the end,
+/// that a dearest edge is dropped. Whether x and y are admissible isn't looked at.
+pub fn judge_chain(network_text: &[u8], chain_text: &[u8]) -> Result<(), String> {
+    let network = read_network(network_text).map_err(|r| format!("network refused by {r}"))?;
+    let chain = read_chain(network.vertices, chain_text);
+    let chain = chain.map_err(|_| "broken chain text".to_owned())?;
+    let reserved = as_number(network.reserved);
+    let mut edges: BTreeMap<u16, Edge> = (0..).zip(network.edges).collect();
+    for (number, step) in (1..).zip(chain.steps) {
+        judge_step(&mut edges, reserved, step)
+            .map_err(|fault| format!("step {number}: {fault}"))?;
+    }
+    let cost = |edge: &u16| edges[edge].cost;
+    let last: Vec<u16> = edges.keys().copied().filter(|&e| e != reserved).collect();
+    if !last.contains(&chain.dropped) {
+        return Err("the dropped edge isn't one of the last".to_owned());
+    }
+    if last.iter().map(cost).max() > Some(cost(&chain.dropped)) {
+        return Err("the dropped edge isn't a dearest".to_owned());
+    }
+    Ok(())
+}
+
+/// Says what is wrong with a step, if anything is, and takes it. The ends of an edge may be in any
+/// order.
+fn judge_step(edges: &mut BTreeMap<u16, Edge>, reserved: u16, step: Step) -> Result<(), String> {
+    let Step { v, x, y, z, cost } = step;
+    let at_v = |edge: &Edge| edge.low == v || edge.high == v;
+    let around = edges.iter().filter(|(_, edge)| at_v(edge));
+    let around: Vec<u16> = around.map(|(&number, _)| number).collect();
+    let mut named = [reserved, x, y, z];
+    named.sort_unstable();
+    if around != named {
+        return Err(format!("the edges at {v} are {around:?}"));
+    }
+    let [to_u, to_x, to_y, to_z] = [reserved, x, y, z].map(|number| {
+        let Edge { low, high, cost } = edges[&number];
+        (if low == v { high } else { low }, cost)
+    });
+    if to_x.1 < to_y.1 {
+        return Err(format!("x costs {} and y {}", to_x.1, to_y.1));
+    }
+    if cost != to_z.1 - to_x.1 {
+        return Err(format!("z costs {} and x {}", to_z.1, to_x.1));
+    }
+    let joined = |low, high, cost| Edge { low, high, cost };
+    edges.insert(reserved, joined(to_u.0, to_x.0, to_u.1));
+    edges.insert(z, joined(to_y.0, to_z.0, cost));
+    edges.remove(&x);
+    edges.remove(&y);
     Ok(())
 }
 
@@ -173,6 +233,42 @@ mod tests {
         assert!(judge(&[1], -1, 5).is_err());
         assert!(judge_kept(TWO, b"").is_err());
         assert!(judge_kept(b"", b"").is_err());
+    }
+
+    /// Three vertices, any two of them joined twice, with edge 0 reserved.
+    const THREE: &[u8] = b"0100030000\n\
+        020000000000010000000000000007\n\
+        020001000000010000000000000004\n\
+        020002000000020000000000000001\n\
+        020003000000020000000000000002\n\
+        020004000100020000000000000006\n\
+        020005000100020000000000000003\n";
+
+    #[test]
+    fn each_fault_of_a_chain_is_found() {
+        let right = "030001000400050001fffffffffffffffe\n040003\n";
+        let judge = |chain: &str| judge_chain(THREE, chain.as_bytes());
+        assert_eq!(judge(right), Ok(()));
+        for (from, to) in [
+            // Another v, x and y exchanged, another z, another cost, another dropped edge.
+            ("030001", "030002"),
+            ("00040005", "00050004"),
+            ("050001", "050002"),
+            ("fffffffffffffffe", "fffffffffffffffd"),
+            ("fffffffffffffffe", "0000000000000002"),
+            ("fffffffffffffffe", "0000000000000004"),
+            ("040003", "040002"),
+            ("040003", "040000"),
+            ("040003", "040004"),
+            // Other forms.
+            ("0001fffffffffffffffe", ""),
+            ("040003\n", ""),
+        ] {
+            assert!(right.contains(from));
+            let chain = right.replacen(from, to, 1);
+            assert!(judge(&chain).is_err(), "{chain}");
+        }
+        assert!(judge_chain(b"", b"").is_err());
     }
 
     #[test]

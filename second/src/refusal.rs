@@ -35,3 +35,5 @@ pub const BAD_LIST: Refusal = 14;
 pub const BAD_SPAN: Refusal = 15;
 /// More spans than the network has edges, or weights that don't total these.
 pub const BAD_TOTAL: Refusal = 16;
+/// A step's z isn't the third partner, or its cost isn't the one after the step.
+pub const NOT_GIVEN: Refusal = 17;

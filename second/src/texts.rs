@@ -43,6 +43,10 @@ pub struct Step {
     pub x: u16,
     /// The other admissible partner.
     pub y: u16,
+    /// The third partner.
+    pub z: u16,
+    /// The cost of `z` after the step.
+    pub cost: i64,
 }
 
 /// The meaning of a chain text.
@@ -139,8 +143,9 @@ pub fn read_chain(vertices: usize, text: &[u8]) -> Result<Chain, Refusal> {
 
 /// Takes one frame 03.
 pub(crate) fn read_step(lines: &mut Lines) -> Result<Step, Refusal> {
-    let [v, x, y] = STEP.read(lines)?.map(as_number);
-    Ok(Step { v, x, y })
+    let [v, x, y, z, cost] = STEP.read(lines)?;
+    let [v, x, y, z] = [v, x, y, z].map(as_number);
+    Ok(Step { v, x, y, z, cost })
 }
 
 /// Takes one frame 04.
@@ -176,7 +181,13 @@ pub(crate) fn write_chain_rows(
 
 /// Appends one frame 03, whatever its numbers.
 pub fn write_step(step: Step, text: &mut Vec<u8>) {
-    STEP.write([step.v.into(), step.x.into(), step.y.into()], text);
+    STEP.write(step_fields(step), text);
+}
+
+/// The fields of a frame 03.
+pub(crate) fn step_fields(step: Step) -> [i64; 5] {
+    let [v, x, y, z] = [step.v, step.x, step.y, step.z].map(i64::from);
+    [v, x, y, z, step.cost]
 }
 
 /// Appends one frame 04, whatever its number.

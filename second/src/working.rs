@@ -3,7 +3,7 @@
 use crate::cuts::Multigraph;
 use crate::flow::Flow;
 use crate::network::{every_cut_has_four, Method, Settled};
-use crate::texts::Network;
+use crate::texts::{Network, Step};
 
 /// A network on the way down to two vertices.
 ///
@@ -178,14 +178,22 @@ impl Working {
         Flow::new(self.ports.len(), &edges).disjoint_paths(source, sink, 4) == 4
     }
 
-    /// Splits `v` with partner `x`, `y` being another partner; gives the number z of the
-    /// third one. Both are to be admissible.
-    pub fn split(&mut self, v: usize, x: usize, y: usize) -> usize {
+    /// The whole step that splits `v` with its partner `x`, `y` being another one: with the
+    /// third partner, and with its cost after the step.
+    pub fn step(&self, v: usize, x: usize, y: usize) -> Step {
         let z = self
             .partners(v)
             .into_iter()
             .find(|&partner| partner != x && partner != y)
             .expect("there are three partners");
+        let cost = self.cost(z) - self.cost(x);
+        let [v, x, y, z] = [v, x, y, z].map(as_number);
+        Step { v, x, y, z, cost }
+    }
+
+    /// Takes a step as [`Working::step`] gives it, with admissible partners.
+    pub fn split(&mut self, step: Step) {
+        let [v, x, y, z] = [step.v, step.x, step.y, step.z].map(usize::from);
         let u = self.edge(self.reserved).far_end(v);
         let x_end = self.edge(x).far_end(v);
         let y_end = self.edge(y).far_end(v);
@@ -197,7 +205,7 @@ impl Working {
         });
         self.edges[z] = Some(WorkingEdge {
             ends: (y_end, z_end),
-            cost: self.cost(z) - self.cost(x),
+            cost: step.cost,
         });
         self.edges[x] = None;
         self.edges[y] = None;
@@ -206,7 +214,6 @@ impl Working {
         self.replug(x_end, x, self.reserved);
         self.replug(y_end, y, z);
         self.vertices_left -= 1;
-        z
     }
 
     /// Puts edge `new` at a vertex in the place of edge `old`.
@@ -214,6 +221,11 @@ impl Working {
         let port = self.ports[vertex].iter_mut().find(|port| **port == old);
         *port.expect("the edge ends at the vertex") = new;
     }
+}
+
+/// A vertex or an edge as the number in a frame.
+pub(crate) fn as_number(place: usize) -> u16 {
+    u16::try_from(place).expect("numbers of vertices and edges have two bytes")
 }
 
 /// The four far ends at a vertex to be split: u and x are joined, and y and z.

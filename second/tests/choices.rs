@@ -35,8 +35,14 @@ fn assert_choices(network: &Network) {
         let (dear, cheap) = (working.cost(x), working.cost(y));
         assert!(dear > cheap || (dear == cheap && x < y));
         sum += dear + cheap;
-        let z = working.split(v, x, y);
-        assert!(working.cost(z).abs() <= WORKING_LIMIT);
+        let z = usize::from(step.z);
+        assert_eq!(step.cost, working.cost(z) - dear);
+        let mut named = [x, y, z];
+        named.sort_unstable();
+        assert_eq!(working.partners(v), named);
+        working.split(step);
+        assert_eq!(working.cost(z), step.cost);
+        assert!(step.cost.abs() <= WORKING_LIMIT);
         assert!(!working.has_vertex(v));
         assert!(!working.has_edge(x) && !working.has_edge(y));
     }
@@ -60,12 +66,7 @@ fn the_planner_chooses_as_it_must() {
 /// How far from zero working costs go on the planner's way.
 fn furthest(network: &Network) -> i64 {
     let (chain, _) = plan_network(network, Method::ContractedFlow);
-    let mut working = Working::new(network);
-    let costs = chain.steps.iter().map(|step| {
-        let [v, x, y] = [step.v, step.x, step.y].map(usize::from);
-        let z = working.split(v, x, y);
-        working.cost(z).abs()
-    });
+    let costs = chain.steps.iter().map(|step| step.cost.abs());
     costs.max().expect("there are steps")
 }
 

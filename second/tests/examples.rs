@@ -2,17 +2,20 @@
 
 mod common;
 
-use common::{network_text, T, TWO_ACROSS, T_PLAN};
+use common::{network_text, SQUARE_COSTS, SQUARE_ENDS, T, TWO_ACROSS, T_PLAN};
 use second::{
-    audit, check_chain_by, check_network, check_network_by, plan_by, plan_output, read_kept,
-    write_chain, write_kept, write_list, Audit, Chain, Kept, Method, Step,
+    audit, check_chain_by, check_network, check_network_by, plan_by, plan_output, write_chain,
+    write_kept, write_list, Audit, Chain, Kept, Method, Step,
 };
 
-/// Steps, dropped edge, kept edges, kept cost and total.
-type Outcome<'a> = (&'a [(u16, u16, u16)], u16, &'a [u16], i64, i64);
+/// Steps with v, x, y, z and the cost of z, dropped edge, kept edges, kept cost and total.
+type Outcome<'a> = (&'a [(u16, u16, u16, u16, i64)], u16, &'a [u16], i64, i64);
 
 fn assert_planned(network: &[u8], vertices: usize, (steps, dropped, edges, cost, total): Outcome) {
-    let steps = steps.iter().map(|&(v, x, y)| Step { v, x, y }).collect();
+    let steps = steps
+        .iter()
+        .map(|&(v, x, y, z, cost)| Step { v, x, y, z, cost })
+        .collect();
     let edges = edges.to_vec();
     let chain = write_chain(vertices, &Chain { steps, dropped }).unwrap();
     let kept = write_kept(&Kept { edges, cost, total });
@@ -55,53 +58,43 @@ fn two_vertices_drop_a_dearest() {
 
 #[test]
 fn the_printed_network_with_other_costs() {
+    // At vertex 1 the partners are 1, 4 and 5; 1 runs along the reserved edge, so that it is z, and
+    // its cost becomes its own less that of 4.
     let network = t_with([7, 4, 1, 2, 6, 3]);
-    assert_planned(&network, 3, (&[(1, 4, 5)], 3, &[1, 2, 5], 8, 16));
+    assert_planned(&network, 3, (&[(1, 4, 5, 1, 4 - 6)], 3, &[1, 2, 5], 8, 16));
     let network = t_with([7, 40, 1, 2, 6, 3]);
-    assert_eq!(
-        read_kept(&plan_by(&network, Method::Mixed).unwrap().kept),
-        Ok(Kept {
-            edges: vec![2, 3, 4, 5],
-            cost: 12,
-            total: 52
-        })
-    );
+    let steps = [(1, 4, 5, 1, 40 - 6)];
+    assert_planned(&network, 3, (&steps, 1, &[2, 3, 4, 5], 12, 52));
     let network = t_with([1; 6]);
-    assert_eq!(
-        read_kept(&plan_by(&network, Method::Mixed).unwrap().kept),
-        Ok(Kept {
-            edges: vec![1, 2, 5],
-            cost: 3,
-            total: 5
-        })
-    );
+    assert_planned(&network, 3, (&[(1, 4, 5, 1, 0)], 3, &[1, 2, 5], 3, 5));
 }
 
 #[test]
 fn four_vertices() {
-    let ends = [
-        (0, 1),
-        (0, 1),
-        (2, 3),
-        (2, 3),
-        (0, 2),
-        (1, 3),
-        (0, 3),
-        (1, 2),
-    ];
-    let network = network_text(4, 4, &ends, &[2, 5, 1, 4, 9, 3, 6, 2]);
-    let steps = [(2, 3, 2), (3, 5, 7)];
+    let network = network_text(4, 4, &SQUARE_ENDS, &SQUARE_COSTS);
+    // At vertex 2 the partners are 2, 3 and 7: 7 then runs from 3 to 1, at 2 less the 4 of edge 3.
+    // At vertex 3 they are 5, 6 and 7: 6 then runs from 1 to 0, at 6 less the 3 of edge 5. The
+    // last three cost 2, 5 and 3.
+    let steps = [(2, 3, 2, 7, -2), (3, 5, 7, 6, 3)];
     assert_planned(&network, 4, (&steps, 1, &[0, 2, 6, 7], 11, 23));
 }
 
 #[test]
 fn refused_chains_over_the_printed_network() {
-    let cases: [(&[u8], u8); 5] = [
-        (b"03000200040005\n040003\n", 8),
-        (b"03000100040000\n040003\n", 9),
-        (b"03000100010005\n040003\n", 10),
-        (b"03000100050004\n040003\n", 11),
-        (b"03000100040005\n040002\n", 12),
+    let cases: [(&[u8], u8); 10] = [
+        (b"030002000400050001fffffffffffffffe\n040003\n", 8),
+        (b"030001000400000001fffffffffffffffe\n040003\n", 9),
+        // With x 1 edge 4 is the third one, at 6 less 4; with x 5 edge 1 is, at 4 less 3.
+        (b"0300010001000500040000000000000002\n040003\n", 10),
+        (b"0300010005000400010000000000000001\n040003\n", 11),
+        (b"030001000400050001fffffffffffffffe\n040002\n", 12),
+        // A wrong z, and costs that are one off, unchanged and added.
+        (b"030001000400050002fffffffffffffffe\n040003\n", 17),
+        (b"030001000400050001fffffffffffffffd\n040003\n", 17),
+        (b"0300010004000500010000000000000004\n040003\n", 17),
+        (b"030001000400050001000000000000000a\n040003\n", 17),
+        // The frame with v, x and y alone.
+        (b"03000100040005\n040003\n", 1),
     ];
     for (chain, refusal) in cases {
         for method in Method::ALL {

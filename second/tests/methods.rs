@@ -26,7 +26,7 @@ fn compare_partners(network: &Network, methods: &[Method]) {
             let admissible = judged[0].iter().filter(|&&answer| answer).count();
             assert!(admissible >= 2, "Lemma 8");
         }
-        working.split(step.v.into(), step.x.into(), step.y.into());
+        working.split(step);
     }
 }
 

@@ -60,13 +60,19 @@ fn the_network_before_the_chain_and_frames_in_order() {
     let uneven = t_with(&[(6, "020005000000020000000000000003")]);
     assert_eq!(check_chain(&uneven, b"junk"), Err(6));
     assert_eq!(check_chain(T.as_bytes(), b""), Err(1));
-    assert_eq!(check_chain(T.as_bytes(), b"03000200040005\njunk"), Err(8));
-    assert_eq!(check_chain(T.as_bytes(), b"03000200040005"), Err(1));
-    assert_eq!(check_chain(T.as_bytes(), b"03000200040004\n"), Err(8));
-    assert_eq!(check_chain(T.as_bytes(), b"03000100010001\n"), Err(9));
-    assert_eq!(check_chain(T.as_bytes(), b"03000100010000\n"), Err(9));
-    assert_eq!(check_chain(T.as_bytes(), b"03000100050001\n"), Err(10));
-    let good = b"03000100040005\n";
+    // What stands behind v, x and y is that of the right step, which is wrong in most of these.
+    let step = |start: &str, end: &str| {
+        let chain = [start, "0001fffffffffffffffe", end].concat();
+        check_chain(T.as_bytes(), chain.as_bytes())
+    };
+    assert_eq!(step("03000200040005", "\njunk"), Err(8));
+    assert_eq!(step("03000200040005", ""), Err(1));
+    assert_eq!(step("03000200040004", "\n"), Err(8));
+    assert_eq!(step("03000100010001", "\n"), Err(9));
+    assert_eq!(step("03000100010000", "\n"), Err(9));
+    assert_eq!(step("03000100050001", "\n"), Err(10));
+    assert_eq!(step("03000100050004", "\n"), Err(11));
+    let good = b"030001000400050001fffffffffffffffe\n";
     let with = |ending: &[u8]| check_chain(T.as_bytes(), &[good, ending].concat());
     assert_eq!(with(b""), Err(1));
     assert_eq!(with(b"040002\nleft over"), Err(12));
@@ -74,18 +80,18 @@ fn the_network_before_the_chain_and_frames_in_order() {
     assert_eq!(with(b"040000\n"), Err(12));
     assert_eq!(with(b"040004\n"), Err(12));
     assert_eq!(with(b"04ffff\n"), Err(12));
-    assert_eq!(with(b"03000200010002\n"), Err(1));
+    assert_eq!(with(b"030002000100020003fffffffffffffffe\n"), Err(1));
     assert!(with(b"040003\n").is_ok());
 }
 
 #[test]
 fn the_other_end_may_be_split() {
-    // At vertex 0 the partners are 1, 2 and 3; 1 runs along the reserved edge.
-    let by_rule = b"03000000030002\n040004\n";
+    // At vertex 0 the partners are 1, 2 and 3, at costs 4, 1 and 2; 1 runs along the reserved edge.
+    let by_rule = b"0300000003000200010000000000000002\n040004\n";
     assert!(check_chain(T.as_bytes(), by_rule).is_ok());
-    let cheaper = b"03000000020003\n040004\n";
+    let cheaper = b"0300000002000300010000000000000003\n040004\n";
     assert_eq!(check_chain(T.as_bytes(), cheaper), Err(11));
-    let along = b"03000000010003\n040004\n";
+    let along = b"030000000100030002fffffffffffffffd\n040004\n";
     assert_eq!(check_chain(T.as_bytes(), along), Err(10));
 }
 
@@ -142,7 +148,13 @@ fn writers_refuse_in_the_readers_order() {
     meaning.edges.pop();
     assert!(write_network(&meaning).is_ok());
 
-    let step = Step { v: 9, x: 9, y: 9 };
+    let step = Step {
+        v: 9,
+        x: 9,
+        y: 9,
+        z: 9,
+        cost: i64::MIN,
+    };
     for count in [0, 2] {
         let steps = vec![step; count];
         let dropped = 65_535;

@@ -6,10 +6,11 @@ use std::cell::Cell;
 
 use common::{rounds, BREAKING};
 use second::audit::{audit_list, audit_list_by_definition};
+use second::columns::StepColumns;
 use second::generate::{
     self, Aim, CostStyle, Damage, Family, ListStyle, NetworkAim, Rng, Shapeless,
 };
-use second::properties::judge_kept;
+use second::properties::{judge_chain, judge_kept};
 use second::{
     audit, check_chain, check_network, columns, lengths, plan, read_chain, read_kept, read_list,
     read_network, write_chain, write_list, write_network,
@@ -21,6 +22,7 @@ fn assert_plan_is_good(text: &[u8]) {
     let plan = plan(text).unwrap();
     assert_eq!(check_chain(text, &plan.chain).as_ref(), Ok(&plan.kept));
     assert_eq!(judge_kept(text, &plan.kept), Ok(()));
+    assert_eq!(judge_chain(text, &plan.chain), Ok(()));
     let vertices = read_network(text).unwrap().vertices;
     assert_eq!(plan.chain.len(), lengths::chain_text(vertices));
     let kept = read_kept(&plan.kept).unwrap();
@@ -74,6 +76,7 @@ fn chains_by_rule_pass() {
         assert_eq!(read_chain(size, &chain_text), Ok(chain));
         let kept = check_chain(&text, &chain_text).unwrap();
         assert_eq!(judge_kept(&text, &kept), Ok(()));
+        assert_eq!(judge_chain(&text, &chain_text), Ok(()));
     });
 }
 
@@ -108,6 +111,7 @@ fn changed_chains_pass_only_as_chain_texts() {
             let meaning = read_chain(size, &chain).unwrap();
             assert_eq!(write_chain(size, &meaning).as_ref(), Ok(&chain));
             assert_eq!(judge_kept(&text, &kept), Ok(()));
+            assert_eq!(judge_chain(&text, &chain), Ok(()));
         } else {
             refused.set(refused.get() + 1);
         }
@@ -259,8 +263,7 @@ fn written_chain_columns_are_read_again() {
     let (written, refused) = (Cell::new(0), Cell::new(0));
     rounds(500, |rng| {
         let given = generate::chain_columns(rng);
-        let (v, x, y) = (&given.v, &given.x, &given.y);
-        let text = columns::write_chain(given.vertices, v, x, y, given.dropped);
+        let text = columns::write_chain(given.vertices, &given.steps, given.dropped);
         let Ok(text) = text else {
             refused.set(refused.get() + 1);
             return;
@@ -268,9 +271,7 @@ fn written_chain_columns_are_read_again() {
         written.set(written.get() + 1);
         let meaning = read_chain(given.vertices, &text).unwrap();
         assert_eq!(meaning.dropped, given.dropped);
-        assert!(meaning.steps.iter().map(|step| step.v).eq(given.v));
-        assert!(meaning.steps.iter().map(|step| step.x).eq(given.x));
-        assert!(meaning.steps.iter().map(|step| step.y).eq(given.y));
+        assert_eq!(StepColumns::of(&meaning.steps), given.steps);
     });
     assert!(written.get() > 100 && refused.get() > 100);
 }

@@ -55,7 +55,7 @@ fn the_triangle() {
     let network = network_text(3, 0, &ends, &[7, 7, 1, 1, 6, 6]);
     assert_eq!(table_network(text), Ok(network));
     let plan = plan_table(text).unwrap();
-    assert_eq!(plan.chain, b"03000100040005\n040003\n");
+    assert_eq!(plan.chain, b"0300010004000500010000000000000001\n040003\n");
     assert_eq!(
         plan.kept,
         b"050001\n050002\n050005\n06000000000000000e0000000000000015\n"

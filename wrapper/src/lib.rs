@@ -82,7 +82,7 @@ pub const STEPS: usize = 254;
 /// The most bytes of a network text.
 pub const NETWORK_TEXT: usize = 15_883;
 /// The most bytes of a chain text.
-pub const CHAIN_TEXT: usize = 3_817;
+pub const CHAIN_TEXT: usize = 8_897;
 /// The most bytes of a kept text.
 pub const KEPT_TEXT: usize = 3_612;
 /// The most bytes of an audit list.

@@ -26,6 +26,10 @@ pub struct Chain {
     pub x: Vec<u16>,
     /// The other partners.
     pub y: Vec<u16>,
+    /// The third partners.
+    pub z: Vec<u16>,
+    /// The costs of the third partners after the steps.
+    pub cost: Vec<i64>,
     /// The edge that the ending drops.
     pub dropped: u16,
 }
@@ -72,28 +76,43 @@ pub fn write_network(network: &Network) -> Result<Vec<u8>, Refusal> {
 
 /// Reads a chain text for so many vertices: refusals 2 and 1. The steps are not judged.
 pub fn read_chain(vertices: usize, text: &[u8]) -> Result<Chain, Refusal> {
-    let (mut v, mut x, mut y) = (vec![0; STEPS], vec![0; STEPS], vec![0; STEPS]);
+    let [mut v, mut x, mut y, mut z] = [(); 4].map(|()| vec![0; STEPS]);
+    let mut cost = vec![0; STEPS];
     let mut dropped = 0;
-    Refusal::judge(raw::read_chain(
-        vertices,
-        text,
-        &mut v,
-        &mut x,
-        &mut y,
-        &mut dropped,
-    ))?;
+    let columns = raw::StepsMut {
+        v: &mut v,
+        x: &mut x,
+        y: &mut y,
+        z: &mut z,
+        cost: &mut cost,
+    };
+    Refusal::judge(raw::read_chain(vertices, text, columns, &mut dropped))?;
     let steps = vertices - 2;
-    v.truncate(steps);
-    x.truncate(steps);
-    y.truncate(steps);
-    Ok(Chain { v, x, y, dropped })
+    for column in [&mut v, &mut x, &mut y, &mut z] {
+        column.truncate(steps);
+    }
+    cost.truncate(steps);
+    Ok(Chain {
+        v,
+        x,
+        y,
+        z,
+        cost,
+        dropped,
+    })
 }
 
 /// Writes the text of a chain for so many vertices: refusals 2 and 1. The steps are not judged.
 pub fn write_chain(vertices: usize, chain: &Chain) -> Result<Vec<u8>, Refusal> {
-    let Chain { v, x, y, dropped } = chain;
+    let columns = raw::Steps {
+        v: &chain.v,
+        x: &chain.x,
+        y: &chain.y,
+        z: &chain.z,
+        cost: &chain.cost,
+    };
     written(CHAIN_TEXT, |text, length| {
-        raw::write_chain(vertices, v, x, y, *dropped, text, length)
+        raw::write_chain(vertices, columns, chain.dropped, text, length)
     })
 }
 

@@ -110,6 +110,10 @@ mod declared {
             x_len: usize,
             y: *mut u16,
             y_len: usize,
+            z: *mut u16,
+            z_len: usize,
+            cost: *mut i64,
+            cost_len: usize,
             dropped: *mut u16,
         ) -> u32;
         pub fn thinning_write_chain(
@@ -120,6 +124,10 @@ mod declared {
             x_len: usize,
             y: *const u16,
             y_len: usize,
+            z: *const u16,
+            z_len: usize,
+            cost: *const i64,
+            cost_len: usize,
             dropped: u16,
             text: *mut u8,
             text_len: usize,
@@ -265,15 +273,39 @@ pub fn write_network(
     }
 }
 
-/// Reads a chain text for so many vertices: three columns of steps and the dropped edge.
-pub fn read_chain(
-    vertices: usize,
-    text: &[u8],
-    v: &mut [u16],
-    x: &mut [u16],
-    y: &mut [u16],
-    dropped: &mut u16,
-) -> u32 {
+/// The columns of a chain's steps that its writer reads.
+#[derive(Clone, Copy, Debug)]
+pub struct Steps<'a> {
+    /// The vertices that leave.
+    pub v: &'a [u16],
+    /// The partners to split with.
+    pub x: &'a [u16],
+    /// The other partners.
+    pub y: &'a [u16],
+    /// The third partners.
+    pub z: &'a [u16],
+    /// The costs of the third partners after the steps.
+    pub cost: &'a [i64],
+}
+
+/// The columns of a chain's steps that its reader writes.
+#[derive(Debug)]
+pub struct StepsMut<'a> {
+    /// The vertices that leave.
+    pub v: &'a mut [u16],
+    /// The partners to split with.
+    pub x: &'a mut [u16],
+    /// The other partners.
+    pub y: &'a mut [u16],
+    /// The third partners.
+    pub z: &'a mut [u16],
+    /// The costs of the third partners after the steps.
+    pub cost: &'a mut [i64],
+}
+
+/// Reads a chain text for so many vertices: five columns of steps and the dropped edge.
+pub fn read_chain(vertices: usize, text: &[u8], steps: StepsMut, dropped: &mut u16) -> u32 {
+    let StepsMut { v, x, y, z, cost } = steps;
     // SAFETY: the text is a slice that is only read; the columns and the number are lent to this call alone.
     unsafe {
         declared::thinning_read_chain(
@@ -286,6 +318,10 @@ pub fn read_chain(
             x.len(),
             y.as_mut_ptr(),
             y.len(),
+            z.as_mut_ptr(),
+            z.len(),
+            cost.as_mut_ptr(),
+            cost.len(),
             dropped,
         )
     }
@@ -294,13 +330,12 @@ pub fn read_chain(
 /// Writes the chain text of columns, and its length.
 pub fn write_chain(
     vertices: usize,
-    v: &[u16],
-    x: &[u16],
-    y: &[u16],
+    steps: Steps,
     dropped: u16,
     text: &mut [u8],
     written: &mut usize,
 ) -> u32 {
+    let Steps { v, x, y, z, cost } = steps;
     // SAFETY: the columns are slices that are only read; the buffer and the number are lent to this call alone.
     unsafe {
         declared::thinning_write_chain(
@@ -311,6 +346,10 @@ pub fn write_chain(
             x.len(),
             y.as_ptr(),
             y.len(),
+            z.as_ptr(),
+            z.len(),
+            cost.as_ptr(),
+            cost.len(),
             dropped,
             text.as_mut_ptr(),
             text.len(),

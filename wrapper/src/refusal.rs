@@ -40,11 +40,13 @@ pub enum Refusal {
     Span = 15,
     /// More spans than the network has edges, or doubled weights that do not total as many.
     Total = 16,
+    /// A step's z is not the third partner at v, or its cost is not the one after the step.
+    NotGiven = 17,
 }
 
 impl Refusal {
     /// Every refusal, by its number.
-    pub const ALL: [Refusal; 16] = [
+    pub const ALL: [Refusal; 17] = [
         Refusal::Form,
         Refusal::Vertices,
         Refusal::Reserved,
@@ -61,6 +63,7 @@ impl Refusal {
         Refusal::Listed,
         Refusal::Span,
         Refusal::Total,
+        Refusal::NotGiven,
     ];
 
     /// The number that the services answer with.
@@ -91,6 +94,7 @@ impl Refusal {
             Refusal::Listed => "a listed edge is none of the network's or does not rise",
             Refusal::Span => "a span's doubled weight is not 1 to 4 or its ends do not rise",
             Refusal::Total => "the spans do not stand for as many edges as the network has",
+            Refusal::NotGiven => "a step's z or its cost is not what the step gives",
         }
     }
 
@@ -98,7 +102,7 @@ impl Refusal {
     pub(crate) fn judge(answer: u32) -> Result<(), Refusal> {
         match answer {
             0 => Ok(()),
-            number => Err(Refusal::try_from(number).expect("the services answer 0 to 16")),
+            number => Err(Refusal::try_from(number).expect("the services answer 0 to 17")),
         }
     }
 }
@@ -106,7 +110,7 @@ impl Refusal {
 impl TryFrom<u32> for Refusal {
     type Error = u32;
 
-    /// The refusal of a number from 1 to 16; any other number comes back as the error.
+    /// The refusal of a number from 1 to 17; any other number comes back as the error.
     fn try_from(number: u32) -> Result<Refusal, u32> {
         Refusal::ALL
             .into_iter()
@@ -135,7 +139,7 @@ mod tests {
             assert_eq!(Refusal::judge(place), Err(refusal));
         }
         assert_eq!(Refusal::judge(0), Ok(()));
-        for none in [0, 17, u32::MAX] {
+        for none in [0, 18, u32::MAX] {
             assert_eq!(Refusal::try_from(none), Err(none));
         }
     }

@@ -53,7 +53,7 @@ pub(crate) fn planned(
     Ok(Plan { chain, kept })
 }
 
-/// Checks any bytes as a chain over a network text and gives the kept text: refusals 1 to 12.
+/// Checks any bytes as a chain over a network text and gives the kept text: refusals 1 to 12 and 17.
 pub fn check_chain(network: &[u8], chain: &[u8]) -> Result<Vec<u8>, Refusal> {
     let mut kept = vec![0; KEPT_TEXT];
     let mut written = 0;

@@ -1,13 +1,13 @@
 //! Chains by rule with random choices, and chains with a fault that is aimed at.
 
 use super::damage::break_line;
-use super::{damage, Rng};
+use super::{damage, CostAim, Rng};
 use crate::network::Method;
 use crate::refusal::{
     Refusal, BAD_DROP, BROKEN_TEXT, NOT_ADMISSIBLE, NOT_PARTNERS, NOT_RESERVED_END, X_CHEAPER,
 };
 use crate::texts::{write_chain, write_ending, write_step, Chain, Network, Step};
-use crate::working::Working;
+use crate::working::{as_number, Working};
 
 /// A chain by rule over an accepted network: either end, any two admissible partners,
 /// any dearest drop.
@@ -16,7 +16,7 @@ pub fn chain_by_rule(rng: &mut Rng, network: &Network) -> Chain {
     let mut steps = Vec::new();
     while working.vertices_left() > 2 {
         let step = step_by_rule(rng, &working);
-        take(&mut working, step);
+        working.split(step);
         steps.push(step);
     }
     let dropped = as_number(rng.pick(&dearest(&working)));
@@ -35,11 +35,13 @@ pub fn changed_chain(rng: &mut Rng, network: &Network) -> Vec<u8> {
         let place = rng.between(0, chain.steps.len());
         match chain.steps.get_mut(place) {
             None => chain.dropped = change,
-            Some(step) => match rng.below(5) {
+            Some(step) => match rng.below(7) {
                 0 => step.v = change,
                 1 => step.x = change,
                 2 => step.y = change,
-                3 => std::mem::swap(&mut step.x, &mut step.y),
+                3 => step.z = change,
+                4 => step.cost = rng.pick(&CostAim::ALL).cost(rng),
+                5 => std::mem::swap(&mut step.x, &mut step.y),
                 _ => chain.steps.swap(0, place),
             },
         }
@@ -169,7 +171,7 @@ fn wrong_step(rng: &mut Rng, network: &Network, aim: Aim) -> Option<Vec<u8>> {
             }
         }
         let step = step_by_rule(rng, &working);
-        take(&mut working, step);
+        working.split(step);
         before.push(step);
     }
     let (place, faulty) = chosen?;
@@ -191,14 +193,18 @@ fn wrong_step(rng: &mut Rng, network: &Network, aim: Aim) -> Option<Vec<u8>> {
     Some(text)
 }
 
-/// A step with the given fault and none that is looked at earlier.
-fn faulty_step(rng: &mut Rng, network: &Network, working: &Working, aim: Aim) -> Option<Step> {
+/// A step with the given fault and none that is looked at earlier. Its z and its cost are right
+/// if its partners are.
+pub(super) fn faulty_step(
+    rng: &mut Rng,
+    network: &Network,
+    working: &Working,
+    aim: Aim,
+) -> Option<Step> {
     let good = step_by_rule(rng, working);
     let v = usize::from(good.v);
-    let partners = working.partners(v);
     let ends = working.reserved_ends();
     let vertices = 0..network.vertices;
-    let edges = 0..network.edges.len();
     match aim {
         Aim::OtherVertex => {
             let others: Vec<usize> = vertices
@@ -218,16 +224,11 @@ fn faulty_step(rng: &mut Rng, network: &Network, working: &Working, aim: Aim) ->
         }
         Aim::ReservedPartner => Some(with_partner(rng, good, working.reserved())),
         Aim::RetiredPartner => {
-            let retired: Vec<usize> = edges.filter(|&e| !working.has_edge(e)).collect();
-            let partner = rng.pick_any(&retired)?;
+            let partner = rng.pick_any(&retired(network, working))?;
             Some(with_partner(rng, good, partner))
         }
         Aim::DistantPartner => {
-            let distant: Vec<usize> = edges
-                .filter(|&e| working.has_edge(e) && e != working.reserved())
-                .filter(|e| !partners.contains(e))
-                .collect();
-            let partner = rng.pick_any(&distant)?;
+            let partner = rng.pick_any(&distant(network, working, v))?;
             Some(with_partner(rng, good, partner))
         }
         Aim::NoSuchPartner => {
@@ -236,22 +237,22 @@ fn faulty_step(rng: &mut Rng, network: &Network, working: &Working, aim: Aim) ->
         }
         Aim::SamePartner => Some(Step { y: good.x, ..good }),
         Aim::InadmissibleX | Aim::InadmissibleY => {
-            let bad = *partners
-                .iter()
-                .find(|&&partner| !working.admissible(v, partner, Method::Mixed))?;
+            let bad = working
+                .partners(v)
+                .into_iter()
+                .find(|&partner| !working.admissible(v, partner, Method::Mixed))?;
             // One of the two admissible ones, at any cost: 10 comes before 11.
-            let fine = rng.pick(&[good.x, good.y]);
-            let bad = as_number(bad);
-            let (x, y) = if aim == Aim::InadmissibleX {
-                (bad, fine)
+            let fine = usize::from(rng.pick(&[good.x, good.y]));
+            Some(if aim == Aim::InadmissibleX {
+                working.step(v, bad, fine)
             } else {
-                (fine, bad)
-            };
-            Some(Step { v: good.v, x, y })
+                working.step(v, fine, bad)
+            })
         }
         Aim::CheaperX => {
-            let differ = working.cost(good.x.into()) != working.cost(good.y.into());
-            differ.then_some(swapped(good))
+            let (x, y) = (usize::from(good.x), usize::from(good.y));
+            let differ = working.cost(x) != working.cost(y);
+            differ.then(|| working.step(v, y, x))
         }
         _ => unreachable!("not a fault of a step"),
     }
@@ -268,10 +269,10 @@ fn equal_costs(rng: &mut Rng, network: &Network) -> Option<Vec<u8>> {
             met = true;
             // Against the planner's order, mostly.
             if (step.x < step.y) != rng.once_in(4) {
-                step = swapped(step);
+                std::mem::swap(&mut step.x, &mut step.y);
             }
         }
-        take(&mut working, step);
+        working.split(step);
         steps.push(step);
     }
     let last = dearest(&working);
@@ -284,14 +285,12 @@ fn wrong_drop(rng: &mut Rng, network: &Network, aim: Aim) -> Option<Vec<u8>> {
     let mut chain = chain_by_rule(rng, network);
     let mut working = Working::new(network);
     for &step in &chain.steps {
-        take(&mut working, step);
+        working.split(step);
     }
     let dearest = dearest(&working);
     let candidates: Vec<usize> = match aim {
         Aim::DropReserved => vec![working.reserved()],
-        Aim::DropRetired => (0..network.edges.len())
-            .filter(|&edge| !working.has_edge(edge))
-            .collect(),
+        Aim::DropRetired => retired(network, &working),
         Aim::DropNoSuch => vec![network.edges.len(), 512, 65_535],
         _ => last_three(&working)
             .into_iter()
@@ -306,19 +305,15 @@ fn wrong_drop(rng: &mut Rng, network: &Network, aim: Aim) -> Option<Vec<u8>> {
     Some(text)
 }
 
+/// Bytes that follow a whole chain.
+pub(super) const LEFT_OVER: [&[u8]; 6] = [b"\n", b"0", b"\r\n", b"040000\n", b"050000\n", b"\0"];
+
 /// A chain by rule with one broken line, or with bytes behind it.
 fn broken_form(rng: &mut Rng, network: &Network, aim: Aim) -> Vec<u8> {
     let chain = chain_by_rule(rng, network);
     let mut text = chain_text(network, &chain);
     if aim == Aim::LeftOver {
-        text.extend_from_slice(rng.pick(&[
-            &b"\n"[..],
-            b"0",
-            b"\r\n",
-            b"040000\n",
-            b"050000\n",
-            b"\0",
-        ]));
+        text.extend_from_slice(rng.pick(&LEFT_OVER));
         return text;
     }
     break_line(rng, &mut text);
@@ -335,28 +330,27 @@ fn step_by_rule(rng: &mut Rng, working: &Working) -> Step {
         .filter(|&partner| working.admissible(v, partner, Method::Mixed))
         .collect();
     rng.shuffle(&mut admissible);
-    let step = Step {
-        v: as_number(v),
-        x: as_number(admissible[0]),
-        y: as_number(admissible[1]),
-    };
-    if working.cost(admissible[0]) < working.cost(admissible[1]) {
-        swapped(step)
+    let (x, y) = (admissible[0], admissible[1]);
+    if working.cost(x) < working.cost(y) {
+        working.step(v, y, x)
     } else {
-        step
+        working.step(v, x, y)
     }
 }
 
-fn take(working: &mut Working, step: Step) {
-    working.split(step.v.into(), step.x.into(), step.y.into());
+/// The edges that have retired.
+pub(super) fn retired(network: &Network, working: &Working) -> Vec<usize> {
+    let edges = 0..network.edges.len();
+    edges.filter(|&edge| !working.has_edge(edge)).collect()
 }
 
-fn swapped(step: Step) -> Step {
-    Step {
-        x: step.y,
-        y: step.x,
-        ..step
-    }
+/// The edges that haven't retired and don't end at a vertex, the reserved one apart.
+pub(super) fn distant(network: &Network, working: &Working, v: usize) -> Vec<usize> {
+    let partners = working.partners(v);
+    (0..network.edges.len())
+        .filter(|&edge| working.has_edge(edge) && edge != working.reserved())
+        .filter(|edge| !partners.contains(edge))
+        .collect()
 }
 
 /// The step with its x or its y replaced.
@@ -382,7 +376,7 @@ fn dearest(working: &Working) -> Vec<usize> {
         .collect()
 }
 
-fn chain_text(network: &Network, chain: &Chain) -> Vec<u8> {
+pub(super) fn chain_text(network: &Network, chain: &Chain) -> Vec<u8> {
     write_chain(network.vertices, chain).expect("the chain has all its steps")
 }
 
@@ -394,8 +388,4 @@ fn any_number(rng: &mut Rng, network: &Network) -> u16 {
         2 => as_number(network.edges.len()),
         _ => as_number(rng.below(network.edges.len())),
     }
-}
-
-fn as_number(place: usize) -> u16 {
-    u16::try_from(place).expect("numbers of vertices and edges have two bytes")
 }

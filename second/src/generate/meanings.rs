@@ -1,6 +1,8 @@
 //! Meanings to be written, of which many have to be turned down.
 
 use super::{list, network, size, CostAim, Rng};
+use crate::columns::StepColumns;
+use crate::lengths::step_column;
 
 /// A network's meaning by columns, which may differ in length.
 #[derive(Clone, Debug, PartialEq, Eq)]
@@ -22,14 +24,58 @@ pub struct NetworkColumns {
 pub struct ChainColumns {
     /// Count of vertices.
     pub vertices: usize,
-    /// The vertices of the steps.
-    pub v: Vec<u16>,
-    /// The partners x.
-    pub x: Vec<u16>,
-    /// The partners y.
-    pub y: Vec<u16>,
+    /// The columns of the steps.
+    pub steps: StepColumns,
     /// The dropped edge.
     pub dropped: u16,
+}
+
+/// A column of a chain's steps.
+#[derive(Clone, Copy, Debug, PartialEq, Eq, PartialOrd, Ord)]
+pub enum StepColumn {
+    /// The vertices that leave.
+    V,
+    /// The partners x.
+    X,
+    /// The partners y.
+    Y,
+    /// The third partners.
+    Z,
+    /// Their costs after the steps.
+    Cost,
+}
+
+impl StepColumn {
+    /// Every column.
+    pub const ALL: [StepColumn; 5] = [
+        StepColumn::V,
+        StepColumn::X,
+        StepColumn::Y,
+        StepColumn::Z,
+        StepColumn::Cost,
+    ];
+
+    /// Gives this column so many entries, by leaving out some at the end or by adding any.
+    pub fn resize(self, rng: &mut Rng, columns: &mut StepColumns, length: usize) {
+        match self {
+            StepColumn::V => columns.v.resize_with(length, || any_number(rng)),
+            StepColumn::X => columns.x.resize_with(length, || any_number(rng)),
+            StepColumn::Y => columns.y.resize_with(length, || any_number(rng)),
+            StepColumn::Z => columns.z.resize_with(length, || any_number(rng)),
+            StepColumn::Cost => columns.cost.resize_with(length, || any_cost(rng)),
+        }
+    }
+
+    /// How many entries the column has.
+    pub fn length(self, columns: &StepColumns) -> usize {
+        match self {
+            StepColumn::V => columns.v.len(),
+            StepColumn::X => columns.x.len(),
+            StepColumn::Y => columns.y.len(),
+            StepColumn::Z => columns.z.len(),
+            StepColumn::Cost => columns.cost.len(),
+        }
+    }
 }
 
 /// A network's meaning with a few changes or none.
@@ -59,25 +105,31 @@ pub fn network_columns(rng: &mut Rng) -> NetworkColumns {
     columns
 }
 
+/// A chain's meaning for so many vertices with any numbers, every column as long as is due.
+pub fn whole_chain_columns(rng: &mut Rng, vertices: usize) -> ChainColumns {
+    let mut steps = StepColumns::default();
+    for column in StepColumn::ALL {
+        column.resize(rng, &mut steps, step_column(vertices));
+    }
+    let dropped = any_number(rng);
+    ChainColumns {
+        vertices,
+        steps,
+        dropped,
+    }
+}
+
 /// A chain's meaning with any numbers and a few changes of lengths or none.
 pub fn chain_columns(rng: &mut Rng) -> ChainColumns {
     let vertices = size(rng);
-    let mut column = || -> Vec<u16> { (2..vertices).map(|_| any_number(rng)).collect() };
-    let (v, x, y) = (column(), column(), column());
-    let dropped = any_number(rng);
-    let mut columns = ChainColumns {
-        vertices,
-        v,
-        x,
-        y,
-        dropped,
-    };
+    let mut columns = whole_chain_columns(rng, vertices);
     for _ in 0..rng.below(3) {
-        match rng.below(4) {
-            0 => columns.vertices = changed_count(rng, vertices),
-            1 => change_length(rng, &mut columns.v, 0),
-            2 => change_length(rng, &mut columns.x, 1),
-            _ => change_length(rng, &mut columns.y, 65_535),
+        if rng.once_in(4) {
+            columns.vertices = changed_count(rng, vertices);
+        } else {
+            let column = rng.pick(&StepColumn::ALL);
+            let length = changed_length(rng, column.length(&columns.steps));
+            column.resize(rng, &mut columns.steps, length);
         }
     }
     columns
@@ -116,6 +168,15 @@ fn any_number(rng: &mut Rng) -> u16 {
     u16::try_from(rng.below(bound)).expect("two bytes")
 }
 
+/// Any number of eight bytes: zero, one near it, or one that would be another in four bytes or in
+/// seven.
+fn any_cost(rng: &mut Rng) -> i64 {
+    let near = rng.signed(-9, 9);
+    let aimed = rng.pick(&CostAim::ALL).cost(rng);
+    let any = i64::from_le_bytes(rng.bits().to_le_bytes());
+    rng.pick(&[0, near, aimed, any])
+}
+
 /// Changes the entry at a place, if the column still reaches there.
 fn change<T>(column: &mut [T], place: usize, entry: T) {
     if let Some(old) = column.get_mut(place) {
@@ -125,10 +186,16 @@ fn change<T>(column: &mut [T], place: usize, entry: T) {
 
 /// Makes a column shorter or longer by a few entries.
 fn change_length<T: Clone>(rng: &mut Rng, column: &mut Vec<T>, filling: T) {
+    let length = changed_length(rng, column.len());
+    column.resize(length, filling);
+}
+
+/// A length that is shorter or longer by a few.
+fn changed_length(rng: &mut Rng, length: usize) -> usize {
     let few = rng.between(1, 3);
     if rng.once_in(2) {
-        column.truncate(column.len().saturating_sub(few));
+        length.saturating_sub(few)
     } else {
-        column.resize(column.len() + few, filling);
+        length + few
     }
 }

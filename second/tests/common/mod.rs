@@ -20,13 +20,26 @@ pub const T: &str = "\
 
 /// What the plan program writes for it.
 pub const T_PLAN: &str = "\
-03000100040005
+030001000400050001fffffffffffffffe
 040003
 050001
 050002
 050005
 0600000000000000080000000000000010
 ";
+
+/// The ends and the costs of the network of four vertices in the rules; edge 4 is reserved.
+pub const SQUARE_ENDS: [(u16, u16); 8] = [
+    (0, 1),
+    (0, 1),
+    (2, 3),
+    (2, 3),
+    (0, 2),
+    (1, 3),
+    (0, 3),
+    (1, 2),
+];
+pub const SQUARE_COSTS: [i64; 8] = [2, 5, 1, 4, 9, 3, 6, 2];
 
 /// Two pairs of vertices, each joined threefold, with an edge from either vertex of one pair to one of the other: every
 /// vertex has four edges, and two cross the cut between the pairs.
