@@ -142,11 +142,11 @@ step-passes : {g : Network} → Running g → (t : Step) (rest : List ℕ) (L : 
 unfolding lifted
 step-passes {g} run t rest L more r h =
     let passed = ruled-step (run .sound) (run .left) t r in
-    let below : {e : ℕ} → Partner g (t .v) e → e < 2 ^ 16 = λ p. omega (arith, p .number, run .edge-room) in
+    let below : (e : ℕ) → Partner g (t .v) e → e < 2 ^ 16 = λ e p. omega (arith, p .number, run .edge-room) in
     let spelt = cost-spelt run more t r in
     let fits =
-    step-fits (inFrame t) (omega (arith, v-below run more t passed, run .vertex-room)) (below (r .x-partner))
-    (below (r .y-partner)) (below (r .z-partner)) spelt in
+    step-fits (inFrame t) (omega (arith, v-below run more t passed, run .vertex-room)) (below _ (r .x-partner))
+    (below _ (r .y-partner)) (below _ (r .z-partner)) spelt in
     let text = lineOf STEP (ofStep (inFrame t)) ++ rest in
     chain-at-more g text 0 more (line-is STEP (ofStep (inFrame t)) rest) t (line-names t spelt fits rest) (lineLength STEP)
     (after g t) passed refl (omega arith)

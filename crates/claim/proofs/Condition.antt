@@ -221,7 +221,9 @@ module _ {t : List ℕ} {g : Network} (a : Accepted t g) where
 
   -- 13 is the buffer's
   never-short : (chain : List ℕ) → checkChainText t chain ≡ refusedBy SHORT → ⊥
-  never-short chain h = ⊎-elim (λ e. omega arith) (λ w. omega (arith, w .1)) (chain-meets t chain g SHORT (accepts a) h)
+  never-short chain h =
+      ⊎-elim (λ e. omega arith) (λ w. ⊎-elim (λ w. omega (arith, w .1)) (λ e. omega arith) w)
+      (chain-meets t chain g SHORT (accepts a) h)
 
   passes-ruled-text : (chain lent : List ℕ) → Passes (chainReply t chain lent) → (K : List Bool) × Ruled g chain K
   passes-ruled-text chain lent p = go (checkChainText t chain) refl

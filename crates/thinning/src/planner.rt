@@ -57,7 +57,15 @@ fn hand_over(
     if kept.len() < kept_due {
         return Planned::Refused(SHORT);
     }
-    put_chain(&v[..steps], &x[..steps], &y[..steps], &z[..steps], &cost[..steps], dropped, chain);
+    put_chain(
+        &v[..steps],
+        &x[..steps],
+        &y[..steps],
+        &z[..steps],
+        &cost[..steps],
+        dropped,
+        chain,
+    );
     put_kept(network, marked, kept);
     Planned::Written {
         chain: chain_due,
@@ -90,8 +98,28 @@ pub fn plan_loaded(loaded: Loaded, chain: &mut [u8], kept: &mut [u8]) -> Planned
     let mut z = [0u16; STEP_LIMIT];
     let mut cost = [0i64; STEP_LIMIT];
     let mut marks = [false; EDGE_LIMIT];
-    let dropped = plan_steps(state, &mut marks, 0, &mut v, &mut x, &mut y, &mut z, &mut cost);
-    hand_over(state, Kept { marks }, dropped, &v, &x, &y, &z, &cost, chain, kept)
+    let dropped = plan_steps(
+        state,
+        &mut marks,
+        0,
+        &mut v,
+        &mut x,
+        &mut y,
+        &mut z,
+        &mut cost,
+    );
+    hand_over(
+        state,
+        Kept { marks },
+        dropped,
+        &v,
+        &x,
+        &y,
+        &z,
+        &cost,
+        chain,
+        kept,
+    )
 }
 
 // Plans a network text: writes the chain text and the kept text, or
