@@ -14,6 +14,7 @@ use Rattle.base.specs.Answer.{Answer, refused, answer, andThen, given, over, fi
 use Rattle.base.specs.Refusals.{SHORT}
 use Rattle.base.proofs.Bools.{no-answer}
 use Rattle.base.proofs.Answers.{then-refused, given-refused, given-short, given-fits, filled-refused, filled-answer}
+use Rattle.base.proofs.Parts.{length-over}
 use Rattle.chain_text.specs.Text.{chainText, stepsOf, chainLength}
 use Rattle.chain_text.proofs.Lengths.{length-chain}
 use Rattle.graph.specs.Split.{after}
@@ -110,7 +111,15 @@ which-short {w} {due} e chain kept h = elim (decLt (length chain) (length (due .
 
 -- ── columns of steps ──
 
--- a column's part, once it is written over the start of another
+-- a column stays as long as it was when the plan's steps are written over its start
+pub column-length : {A : Type 0} (n : ℕ) (g : Network) (part : Step → A) (old out : List A) → n ≤ length old
+    → out ≡ columnPlanned part n g 0 old → length out ≡ length old
+column-length n g part old out room e =
+    let xs = map part (planSteps n g) in
+    ap length (e ∙ over-start xs old)
+    ∙ length-over xs old (omega (arith, length-map (planSteps n g) part, steps-count n g))
+
+-- and its part is there
 column-written : {A : Type 0} (n : ℕ) (g : Network) (part : Step → A) (old out : List A) → n ≤ length old
     → out ≡ columnPlanned part n g 0 old → (n ≤ length out) × (take n out ≡ map part (planSteps n g))
 unfolding over
