@@ -1,4 +1,5 @@
 // One network planned for many candidates for its reserved edge: the costs of each plan.
+use base::EDGE_LIMIT;
 use base::RESERVED;
 use base::Reply;
 use base::SHORT;
@@ -7,6 +8,7 @@ use costs::all_but_reserved;
 use costs::kept_cost;
 use frame::COSTS;
 use frame::length_of;
+use graph::Kept;
 use graph::Network;
 use kept_text::put_costs;
 use rules::plan_steps;
@@ -43,10 +45,22 @@ fn put_candidate(mut network: Network, reserved: usize, costs: &mut [u8]) -> usi
     let mut v = [0u16; STEP_LIMIT];
     let mut x = [0u16; STEP_LIMIT];
     let mut y = [0u16; STEP_LIMIT];
-    let plan = plan_steps(network, &mut v, &mut x, &mut y);
+    let mut z = [0u16; STEP_LIMIT];
+    let mut cost = [0i64; STEP_LIMIT];
+    let mut marks = [false; EDGE_LIMIT];
+    plan_steps(
+        network,
+        &mut marks,
+        0,
+        &mut v,
+        &mut x,
+        &mut y,
+        &mut z,
+        &mut cost,
+    );
     put_costs(
         costs,
-        kept_cost(network, plan.kept),
+        kept_cost(network, Kept { marks }),
         all_but_reserved(network),
     )
 }

@@ -5,7 +5,8 @@ use mathlib.Core.List.{List, [], _∷_, _++_, map, append-assoc}
 use Prim.Native.Nat.{ℕ, suc, _+_, _-_, _≤_, _<_}
 use native.Mathlib.Numerals.{add-one}
 use native.Mathlib.Omega.{arith}
-use lib.ListN.{length, set, take, drop, length-set, take-append-drop}
+use lib.IntN.{pos}
+use lib.ListN.{length, set, take, drop, replicate, length-set, take-append-drop}
 use lib.Seq.{take-suc-set, drop-set-lt, drop-drop}
 use Rattle.graph.specs.Split.{split, after}
 use Rattle.graph.specs.Chain.{stepRefusal, lift}
@@ -16,8 +17,9 @@ use Rattle.graph.specs.declared.Step.{Step}
 use Rattle.graph.proofs.Rules.{ruled-step}
 use Rattle.graph.proofs.Plans.{chosen-ruled}
 use Rattle.base.specs.Answer.{over}
+use Rattle.base.specs.Limits.{stepLimit}
 use Rattle.rules.specs.Running.{Running}
-use Rattle.rules.specs.Plans.{overAt, planned}
+use Rattle.rules.specs.Plans.{overAt, planned, StepRoom}
 use Rattle.rules.proofs.Steps.{step-splittable, running-after, fewer, v-below}
 
 -- ── columns ──
@@ -42,6 +44,17 @@ module _ {A : Type 0} where
       drop-drop (length xs) (suc at) old ∙ ap (λ k. drop k old) place ∙ sym (drop-drop (suc (length xs)) at old) in
       rw (add-one, take-suc-set old at a h, drop-set-lt (suc at) old at a (omega arith), same)
       (append-assoc (take at old) (a ∷ []) _)
+
+-- new columns have room for every chain
+pub new-columns : {n : ℕ} → n ≤ stepLimit → let column = replicate {A = ℕ} stepLimit 0 in
+    StepRoom n column column column column (replicate stepLimit (pos 0))
+new-columns h = record {
+  v-room = omega arith;
+  x-room = omega arith;
+  y-room = omega arith;
+  z-room = omega arith;
+  cost-room = omega arith;
+}
 
 module _ (g : Network) where
   -- two vertices are left: the plan is the ending, and no step is written

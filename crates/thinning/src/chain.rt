@@ -87,9 +87,9 @@ pub fn check_from(
         return refusal;
     }
     network = network.split(step.v as u8, step.x, step.y, step.z);
-    let refusal = check_from(network, chain, next, marks);
-    if 0 < refusal {
-        return refusal;
+    let later = check_from(network, chain, next, marks);
+    if 0 < later {
+        return later;
     }
     lift_marks(marks, step.x, step.y, step.z);
     0

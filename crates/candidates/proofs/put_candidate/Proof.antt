@@ -1,10 +1,11 @@
 -- `candidates::put_candidate` meets its contract.
-use mathlib.Core.Path.{_≡_, ap}
+use mathlib.Core.Path.{_≡_, refl}
 use native.Mathlib.Omega.{arith}
 use mir.Syntax.{w64}
 use mir.Val.{toZ, ofZ}
 use borrow.Author.Needs.{needs}
 use Rattle.kept_text.specs.Text.{costsText}
+use Rattle.rules.proofs.Planning.{new-columns}
 use Rattle.claim.proofs.Accepting.{running-few}
 use Rattle.claim.specs.Condition.{reserving}
 use Rattle.candidates.specs.Services.{planCosts}
@@ -14,25 +15,16 @@ use Rattle.candidates.proofs.put_candidate.Tie as tie
 
 -- where the plan is known, and the entry, seen from where the costs are
 abbrev planning : tie.After-all-but-reserved → tie.After-plan-steps
-planning c = c .before .before .before .before .before .before
+planning c = c .before .before .before
 
 abbrev entry : tie.After-all-but-reserved → tie.Start
-entry c = planning c .before .before .before .before .before
-
-slice-aggregate-plan-steps : tie.Need-slice-aggregate-plan-steps
-slice-aggregate-plan-steps c = search needs
-
-slice-aggregate-plan-steps-2 : tie.Need-slice-aggregate-plan-steps-2
-slice-aggregate-plan-steps-2 c = search needs
-
-slice-aggregate-plan-steps-3 : tie.Need-slice-aggregate-plan-steps-3
-slice-aggregate-plan-steps-3 c = search needs
+entry c = planning c .before .before .before .before .before .before .before .before
 
 plan-steps-requires : tie.Need-plan-steps-requires
 plan-steps-requires c κs =
-    let run = c .before .before .before .before .pre .running in
+    let run = c .before .before .before .before .before .before .before .pre .running in
     let few = running-few run in
-    (run, record { v-room = omega arith; x-room = omega arith; y-room = omega arith })
+    (run, refl, omega arith, new-columns (omega arith))
 
 kept-cost-requires : tie.Need-kept-cost-requires
 kept-cost-requires c κs = search needs
@@ -46,7 +38,7 @@ due : (c : tie.After-all-but-reserved) →
     costsText (toZ w64 (ofZ w64 (c .before .kept-cost .result))) (toZ w64 (ofZ w64 (c .all-but-reserved .result)))
     ≡ planCosts (reserving (a .reserved) (a .network))
 due c =
-    plan-costs (entry c .pre .running) _ (ap (λ p. p .kept .marks) (planning c .plan-steps .ensures .0)) _ _
+    plan-costs (entry c .pre .running) _ (planning c .plan-steps .ensures .1 .0) _ _
     (c .before .kept-cost .ensures) (c .all-but-reserved .ensures)
 
 put-costs-requires : tie.Need-put-costs-requires
@@ -66,9 +58,6 @@ pub put-candidate-spec : {M : Type 1} → statement M
 put-candidate-spec =
     tie.close
     (tie.spec
-    slice-aggregate-plan-steps
-    slice-aggregate-plan-steps-2
-    slice-aggregate-plan-steps-3
     plan-steps-requires
     kept-cost-requires
     all-but-reserved-requires

@@ -12,6 +12,7 @@ use Rattle.loading.specs.Loading.{loadedAnswer}
 use Rattle.loading.proofs.Reading.{ready-known, loaded-zero, loaded-refused}
 use Rattle.rules.specs.Plans.{StepRoom}
 use Rattle.rules.specs.Running.{Running}
+use Rattle.rules.proofs.Planning.{new-columns}
 use Rattle.claim.specs.Services.{accepting, plannedOf}
 use Rattle.claim.proofs.Accepting.{accepting-running, running-few, loaded-numbered}
 use Rattle.claim.proofs.Handing.{handed-refused, column-length, plan-refused, plan-given, plan-ready}
@@ -38,15 +39,7 @@ costs = replicate stepLimit (pos 0)
 
 room : (c : tie.Else1) (n : ℕ) → n ≡ c .before .accept .result .network .remaining - 2
     → StepRoom n column column column column costs
-room c n e =
-    let few = running-few (running c) in
-    record {
-      v-room = omega arith;
-      x-room = omega arith;
-      y-room = omega arith;
-      z-room = omega arith;
-      cost-room = omega arith;
-    }
+room c n e = let few = running-few (running c) in new-columns (omega arith)
 
 -- where the network is known to be accepted, seen from where it was planned
 abbrev known : tie.After-plan-steps → tie.Else1
