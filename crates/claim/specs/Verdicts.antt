@@ -9,19 +9,14 @@ use Rattle.base.specs.Refusals.{FORM}
 use Rattle.frame.specs.Table.{STEP, DROPPED, lineLength}
 use Rattle.frame.specs.Line.{isLine, fieldsOf}
 use Rattle.frame.specs.Kinds.{stepOf, droppedOf}
-use Rattle.frame.specs.declared.line.Fields.{Fields}
 use Rattle.graph.specs.Split.{after}
 use Rattle.graph.specs.Chain.{stepRefusal, endRefusal, endKept, lifted}
 use Rattle.graph.specs.declared.Network.{Network}
 use Rattle.graph.specs.declared.Step.{Step}
 
--- the step that the fields of a frame 03 name
-abbrev pub stepNamed : Fields → Step
-stepNamed f = let s = stepOf f in record { v = s .v; x = s .x; y = s .y; z = s .z; cost = s .cost }
-
 -- the step that a frame 03 at the start of t names, and the edge that a frame 04 drops
 abbrev pub stepIn : List ℕ → Step
-stepIn t = stepNamed (fieldsOf STEP t)
+stepIn t = let s = stepOf (fieldsOf STEP t) in record { v = s .v; x = s .x; y = s .y; z = s .z; cost = s .cost }
 
 abbrev pub droppedIn : List ℕ → ℕ
 droppedIn t = droppedOf (fieldsOf DROPPED t) .edge

@@ -65,12 +65,13 @@ fn judge_at(network: Network, v: u8, step: Step) -> u8
     0
 }
 
-// Judges a step: refusals 8 to 11 in order, then 17, or 0.
-pub fn judge_step(network: Network, step: Step) -> u8
+// Judges the step that names these: refusals 8 to 11 in order, then 17, or 0. It takes numbers, so that a chain's check,
+// which goes as deep as there are vertices, keeps no step in memory.
+pub fn judge_step(network: Network, v: usize, x: usize, y: usize, z: usize, cost: i64) -> u8
     requires { ⌜ Running network ⌝ }
-    ensures { λ r. ⌜ r ≡ stepRefusal network step ⌝ }
+    ensures { λ r. ⌜ r ≡ stepRefusal network (record { v = v; x = x; y = y; z = z; cost = cost }) ⌝ }
 {
-    let v = step.v;
+    let step = Step { v, x, y, z, cost };
     let reserved = network.reserved;
     let low = network.low[reserved];
     if low as usize == v {

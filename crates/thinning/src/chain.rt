@@ -3,11 +3,10 @@ use base::EDGE_LIMIT;
 use base::FORM;
 use frame::DROPPED;
 use frame::Dropped;
-use frame::Fields;
 use frame::Line;
 use frame::STEP;
+use frame::Step;
 use graph::Network;
-use graph::Step;
 use graph::lift_marks;
 use rules::Ended;
 use rules::end_with;
@@ -18,9 +17,7 @@ ghost use Prim.Native.Nat.{_-_};
 ghost use lib.ListN.{drop};
 ghost use Rattle.rules.specs.Running.{Running, Last};
 ghost use Rattle.graph.specs.State.{noMarks};
-ghost use Rattle.frame.specs.Table.{STEP};
-ghost use Rattle.frame.specs.Line.{Fits};
-ghost use Rattle.claim.specs.Verdicts.{stepNamed, checkEnding, checkChain, marksAfter};
+ghost use Rattle.claim.specs.Verdicts.{checkEnding, checkChain, marksAfter};
 ghost use Rattle.base.specs.Answer.{refusalOf};
 
 // The ending that stands at a place of a chain, with nothing behind it: a refusal, or 0 and the marks of what is kept.
@@ -46,21 +43,6 @@ fn check_ending(network: Network, chain: &[u8], at: usize, marks: &mut [bool; ED
     }
 }
 
-// The step that the fields of a frame name.
-fn step_named(fields: Fields) -> Step
-    requires { ⌜ Fits STEP fields ⌝ }
-    ensures { λ r. ⌜ r ≡ stepNamed fields ⌝ }
-{
-    let frame = frame::Step::of(fields);
-    Step {
-        v: frame.v as usize,
-        x: frame.x as usize,
-        y: frame.y as usize,
-        z: frame.z as usize,
-        cost: frame.cost,
-    }
-}
-
 // The steps and the ending that stand at a place of a chain: a refusal, or 0 and the marks of what is kept.
 pub fn check_from(
     mut network: Network,
@@ -81,16 +63,20 @@ pub fn check_from(
     let Line::Frame(fields, next) = frame::read_line(chain, at, STEP) else {
         return FORM;
     };
-    let step = step_named(fields);
-    let refusal = judge_step(network, step);
+    let step = Step::of(fields);
+    let v = step.v as usize;
+    let x = step.x as usize;
+    let y = step.y as usize;
+    let z = step.z as usize;
+    let refusal = judge_step(network, v, x, y, z, step.cost);
     if 0 < refusal {
         return refusal;
     }
-    network = network.split(step.v as u8, step.x, step.y, step.z);
+    network = network.split(v as u8, x, y, z);
     let later = check_from(network, chain, next, marks);
     if 0 < later {
         return later;
     }
-    lift_marks(marks, step.x, step.y, step.z);
+    lift_marks(marks, x, y, z);
     0
 }

@@ -4,11 +4,14 @@ use mathlib.Core.List.{List}
 use Prim.Native.Nat.{ℕ, _-_, _<_}
 use native.Mathlib.Omega.{arith}
 use lib.ListN.{drop}
+use mir.Syntax.{w64}
+use mir.Val.{toZ, ofZ}
+use mir.Facts.{toZ-ofZ}
 use borrow.Author.Needs.{needs}
 use borrow.Fn.Kinds.{In}
 use borrow.Fn.PlainCycle.{Measures, is, falls, and}
 use Rattle.frame.specs.Table.{STEP}
-use Rattle.frame.proofs.Lines.{line-fits}
+use Rattle.frame.specs.Kinds.{stepOf}
 use Rattle.frame.proofs.Runs.{Next, read-as, next-read, none-read}
 use Rattle.graph.specs.Split.{after}
 use Rattle.graph.specs.Chain.{stepRefusal, lifted}
@@ -16,7 +19,7 @@ use Rattle.graph.specs.State.{Splittable}
 use Rattle.graph.specs.declared.Step.{Step}
 use Rattle.rules.specs.Running.{Running}
 use Rattle.rules.proofs.Steps.{step-splittable, running-after, v-below, fewer}
-use Rattle.claim.specs.Verdicts.{stepNamed, stepIn, checkChain}
+use Rattle.claim.specs.Verdicts.{stepIn, checkChain}
 use Rattle.claim.proofs.Chains.{refused-leaves, kept-leaves, was-refused, was-kept, lifted-refused}
 use Rattle.claim.proofs.Chains.{lifted-kept, chain-end, chain-at-broken, chain-at-refused, chain-at-more}
 use Rattle.claim.proofs.Meets.{chain-numbered}
@@ -28,7 +31,7 @@ use Rattle.graph.proofs.Network.split.Reads as split-reads
 use Rattle.graph.proofs.lift_marks.Reads as lift-marks-reads
 use Rattle.rules.proofs.judge_step.Reads as judge-step-reads
 use Rattle.thinning.proofs.chain.check_ending.Reads as check-ending-reads
-use Rattle.thinning.proofs.chain.step_named.Reads as step-named-reads
+use Rattle.frame.proofs.kinds.Step.of.Reads as of-reads
 use Rattle.thinning.proofs.chain.+check_from.{statement}
 use Rattle.thinning.proofs.chain.+check_from.Tie.{close}
 
@@ -47,8 +50,8 @@ claims t = (
   check-ending-reads.Learnt,
   read-line-reads.Asked,
   read-line-reads.Learnt,
-  step-named-reads.Asked,
-  step-named-reads.Learnt,
+  of-reads.Asked,
+  of-reads.Learnt,
   judge-step-reads.Asked,
   judge-step-reads.Learnt,
   split-reads.Asked,
@@ -68,7 +71,7 @@ module _ (t : ℕ) where
 
   -- the entry, seen from the place where the step was judged
   abbrev entry : lts.After-judge-step (claims t) (at t) check-from.Post → lts.Start (claims t) (at t) check-from.Post
-  entry c = c .before .before .before .before .before .before .before .before
+  entry c = c .before .before .before .before .before .before .before .before .before
 
   abbrev run : (c : lts.After-judge-step (claims t) (at t) check-from.Post) → Running (entry c .args .network)
   run c = entry c .pre .1 .0
@@ -77,14 +80,20 @@ module _ (t : ℕ) where
   rest c = drop (entry c .args .at) (entry c .args .chain .now)
 
   more : (c : lts.After-judge-step (claims t) (at t) check-from.Post) → 2 < entry c .args .network .remaining
-  more c = c .before .before .before .before .before .before .if1 .left
+  more c = c .before .before .before .before .before .before .before .if1 .left
 
   -- the step that the frame names
   abbrev judged : lts.After-judge-step (claims t) (at t) check-from.Post → Step
-  judged c = c .before .step-named .result
+  judged c =
+      let s = c .before .before .of .result in
+      record { v = s .v; x = s .x; y = s .y; z = s .z; cost = toZ w64 (ofZ w64 (s .cost)) }
 
   named : (c : lts.After-judge-step (claims t) (at t) check-from.Post) → judged c ≡ stepIn (rest c)
-  named c = c .before .step-named .ensures ∙ ap stepNamed (read (c .before .before) .fields)
+  named c =
+      let k = c .before .before in
+      rw (toZ-ofZ (record { sfits = c .before .struct-told .given .1 .1 .1 .1 .0 .1 }))
+      (ap (λ s. record { v = s .v; x = s .x; y = s .y; z = s .z; cost = s .cost })
+      (k .of .ensures ∙ ap stepOf (read (k .before) .fields)))
 
   -- it is by rule where it is not refused
   by-rule : (c : lts.Else2 (claims t) (at t) check-from.Post)
@@ -97,7 +106,7 @@ module _ (t : ℕ) where
 
   -- where that is known, seen from where the network was split
   abbrev passed : lts.After-split (claims t) (at t) check-from.Post → lts.Else2 (claims t) (at t) check-from.Post
-  passed c = c .before .before
+  passed c = c .before
 
   after-is : (c : lts.After-split (claims t) (at t) check-from.Post) → let j = passed c .before in
       c .split .result ≡ after (entry j .args .network) (judged j)
@@ -109,13 +118,13 @@ module _ (t : ℕ) where
       let g = entry j .args .network in
       let h = c .split .result in
       let s = judged j in
-      let next = j .before .before .before .fields .given .0 .1 .0 in
+      let next = j .before .before .before .before .fields .given .0 .1 .0 in
       checkChain (g .remaining - 2) g (rest j)
       ≡ lifted (s .x) (s .y) (s .z) (checkChain (h .remaining - 2) h (drop next (entry j .args .chain .now)))
   at-more c =
       let j = passed c .before in
       let a = entry j .args in
-      let r = read (j .before .before) in
+      let r = read (j .before .before .before) in
       chain-at-more (a .network) (a .chain .now) (a .at) (more j) (r .is) (judged j) (named j) _ _ (by-rule (passed c))
       (after-is c) (r .place)
 
@@ -147,8 +156,8 @@ module _ (t : ℕ) where
       let none = none-read STEP (a .at) (a .chain .now) (read-as (c .enum-told .given .1) (r .read-line .ensures)) in
       refused-leaves (chain-at-broken (a .network) (a .chain .now) (a .at) (r .before .if1 .left) none) (a .marks .now)
 
-  step-named-requires : lts.Need-step-named-requires (claims t) (at t) check-from.Post
-  step-named-requires c κs = let r = read c in rw (r .fields) (line-fits STEP _ (r .is))
+  of-requires : lts.Need-of-requires (claims t) (at t) check-from.Post
+  of-requires c κs = read c .fits
 
   judge-step-requires : lts.Need-judge-step-requires (claims t) (at t) check-from.Post
   judge-step-requires c κs = search needs
@@ -158,18 +167,17 @@ module _ (t : ℕ) where
       let j = c .before in
       let a = entry j .args in
       refused-leaves
-      (chain-at-refused (a .network) (a .chain .now) (a .at) (more j) (read (j .before .before) .is) (judged j) (named j) _
+      (chain-at-refused (a .network) (a .chain .now) (a .at) (more j) (read (j .before .before .before) .is) (judged j) (named j) _
       (c .if2 .taken) (sym (j .judge-step .ensures)))
       (a .marks .now)
 
   cast-split : lts.Need-cast-split (claims t) (at t) check-from.Post
   cast-split c =
-      let k = c .before in
-      let j = k .before in
-      record { fits = omega (arith, v-below (run j) (more j) (judged j) (by-rule k), run j .vertex-room) }
+      let j = c .before in
+      record { fits = omega (arith, v-below (run j) (more j) (judged j) (by-rule c), run j .vertex-room) }
 
   split-requires : lts.Need-split-requires (claims t) (at t) check-from.Post
-  split-requires c κs = taken (c .before)
+  split-requires c κs = taken c
 
   check-from-requires : lts.Need-check-from-requires (claims t) (at t) check-from.Post
   check-from-requires c κs =
@@ -216,7 +224,7 @@ pub +check-from-spec : {M : Type 1} → statement M
     (enum-known-fields t)
     (enum-told t)
     (returns-2 t)
-    (step-named-requires t)
+    (of-requires t)
     (judge-step-requires t)
     (returns-3 t)
     (cast-split t)
