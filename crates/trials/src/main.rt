@@ -1,11 +1,9 @@
-// Runs the services on the texts of document 01's district examples, and on a wrong text for each refusal.
+// Runs the services but the chain check on the texts of document 01's district examples, and on a wrong text for each
+// refusal.
 use audit::Audited;
 use audit::audit_list;
-use base::LONGEST_KEPT;
-use base::Reply;
 use claim::Acceptance;
 use libc::STDOUT_FILENO;
-use thinning::check_chain;
 use thinning::check_network;
 
 mod binder;
@@ -32,37 +30,6 @@ fn network(what: &[u8], text: &[u8]) {
             say(b"accepted\n");
         }
         Acceptance::Refused(number) => {
-            refused(number);
-        }
-    }
-}
-
-// Says what a chain is, and writes its kept text or the refusal.
-fn chain(what: &[u8], text: &[u8], proposed: &[u8]) {
-    say(what);
-    say(b": ");
-    let mut kept = [0u8; LONGEST_KEPT];
-    match check_chain(text, proposed, &mut kept) {
-        Reply::Done(length) => {
-            say(b"passes\n");
-            io::write_all(STDOUT_FILENO, &kept[..length]);
-        }
-        Reply::Refused(number) => {
-            refused(number);
-        }
-    }
-}
-
-// The same with room for no more than a line.
-fn chain_short(what: &[u8], text: &[u8], proposed: &[u8]) {
-    say(what);
-    say(b": ");
-    let mut kept = [0u8; 55];
-    match check_chain(text, proposed, &mut kept) {
-        Reply::Done(_) => {
-            say(b"passes\n");
-        }
-        Reply::Refused(number) => {
             refused(number);
         }
     }
@@ -152,25 +119,6 @@ fn costs() {
     );
 }
 
-// Chains on T.
-fn chains(text: &[u8]) {
-    chain(b"T as printed", text, b"03000100040005\n040003\n");
-    chain(b"no chain", text, b"");
-    chain(b"no ending", text, b"03000100040005\n");
-    chain(b"v 2", text, b"03000200040005\n040003\n");
-    chain(b"y 0", text, b"03000100040000\n040003\n");
-    chain(b"x 1, y 5", text, b"03000100010005\n040003\n");
-    chain(b"x 5, y 4", text, b"03000100050004\n040003\n");
-    chain(b"drops 2", text, b"03000100040005\n040002\n");
-    chain(
-        b"drops 2, and a broken ending",
-        text,
-        b"03000100040005\n040002",
-    );
-    chain(b"a byte left over", text, b"03000100040005\n040003\n0");
-    chain_short(b"a buffer of 55 bytes", text, b"03000100040005\n040003\n");
-}
-
 // Lists of T's cables.
 fn lists(text: &[u8]) {
     list(b"list 1, 2, 5", text, b"050001\n050002\n050005\n");
@@ -193,25 +141,6 @@ fn islands(text: &[u8], four: &[u8]) {
     );
 }
 
-// The district of four cabinets.
-fn square(text: &[u8]) {
-    chain(
-        b"four cabinets",
-        text,
-        b"03000200030002\n03000300050007\n040001\n",
-    );
-    chain(
-        b"its second step first",
-        text,
-        b"03000300050007\n03000200030002\n040001\n",
-    );
-    chain(
-        b"its second step at v 1",
-        text,
-        b"03000200030002\n03000100050007\n040001\n",
-    );
-}
-
 fn main() {
     networks();
     costs();
@@ -219,7 +148,6 @@ fn main() {
     let printed =
         b"0100030000\n020000000000010000000000000007\n020001000000010000000000000004\n020002000000020000000000000001\n\
             020003000000020000000000000002\n020004000100020000000000000006\n020005000100020000000000000003\n";
-    chains(printed);
     lists(printed);
     let four =
         b"0100040004\n020000000000010000000000000002\n020001000000010000000000000005\n020002000200030000000000000001\n\
@@ -228,6 +156,5 @@ fn main() {
     islands(printed, four);
     binder::run(printed);
     reserving::run(printed);
-    square(four);
     solver::run();
 }

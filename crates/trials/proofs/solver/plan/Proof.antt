@@ -4,6 +4,7 @@ use Prim.Native.Nat.{_≤_}
 use native.Mathlib.Omega.{arith}
 use lib.Seq.{length-take-le}
 use borrow.Author.Needs.{needs}
+use Rattle.base.specs.Lengths.{longestChain, longestKept}
 use Rattle.tables.specs.Services.{tablePlanGiven}
 use Rattle.trials.proofs.Fits.{written-fits}
 use Rattle.trials.proofs.solver.plan.Statement.{statement}
@@ -41,7 +42,7 @@ abbrev at-plan : tie.After-known-told → tie.After-plan-table
 at-plan c = c .before .before .before .before .before
 
 short : (c : tie.After-known-told) →
-    (c .before .chain-length .given .0 .0 ≤ 3817) × (c .before .chain-length .given .0 .1 .0 ≤ 3619)
+    (c .before .chain-length .given .0 .0 ≤ longestChain) × (c .before .chain-length .given .0 .1 .0 ≤ longestKept)
 unfolding tablePlanGiven
 short c = written-fits _ _ _ _ _ (sym (c .before .chain-length .given .1) ∙ at-plan c .plan-table .ensures .0)
 

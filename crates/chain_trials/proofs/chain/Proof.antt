@@ -1,11 +1,11 @@
--- `trials::chain` meets its contract.
+-- `chain_trials::chain` meets its contract.
 use mathlib.Core.Path.{sym, _∙_}
 use native.Mathlib.Omega.{arith}
 use lib.Seq.{length-take-le}
 use borrow.Author.Needs.{needs}
 use Rattle.base.proofs.Answers.{done-fits}
-use Rattle.trials.proofs.chain.Statement.{statement}
-use Rattle.trials.proofs.chain.Tie as tie
+use Rattle.chain_trials.proofs.chain.Statement.{statement}
+use Rattle.chain_trials.proofs.chain.Tie as tie
 
 say-requires : tie.Need-say-requires
 say-requires c κs = search needs

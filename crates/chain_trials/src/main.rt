@@ -1,0 +1,150 @@
+// Runs the chain check on chains over document 01's districts, right ones and a wrong one for each refusal, and reads a
+// chain text into columns.
+use base::LONGEST_KEPT;
+use base::Reply;
+use libc::STDOUT_FILENO;
+use thinning::check_chain;
+
+mod columns;
+mod thirds;
+
+fn say(words: &[u8]) {
+    io::write_all(STDOUT_FILENO, words);
+}
+
+fn refused(number: u8) {
+    say(b"refused ");
+    io::print_decimal(STDOUT_FILENO, number as u64);
+    say(b"\n");
+}
+
+// Says what a chain is, and writes its kept text or the refusal.
+fn chain(what: &[u8], text: &[u8], proposed: &[u8]) {
+    say(what);
+    say(b": ");
+    let mut kept = [0u8; LONGEST_KEPT];
+    match check_chain(text, proposed, &mut kept) {
+        Reply::Done(length) => {
+            say(b"passes\n");
+            io::write_all(STDOUT_FILENO, &kept[..length]);
+        }
+        Reply::Refused(number) => {
+            refused(number);
+        }
+    }
+}
+
+// The same with room for all bytes of the kept text of three cables but the last.
+fn chain_short(what: &[u8], text: &[u8], proposed: &[u8]) {
+    say(what);
+    say(b": ");
+    let mut kept = [0u8; 55];
+    match check_chain(text, proposed, &mut kept) {
+        Reply::Done(_) => {
+            say(b"passes\n");
+        }
+        Reply::Refused(number) => {
+            refused(number);
+        }
+    }
+}
+
+// Chains on T: their form, and v, x and y.
+fn steps(text: &[u8]) {
+    chain(
+        b"T as printed",
+        text,
+        b"030001000400050001fffffffffffffffe\n040003\n",
+    );
+    chain(b"no chain", text, b"");
+    chain(b"no ending", text, b"030001000400050001fffffffffffffffe\n");
+    chain(b"a step of seven bytes", text, b"03000100040005\n040003\n");
+    chain(
+        b"four bytes for z's cost",
+        text,
+        b"030001000400050001fffffffe\n040003\n",
+    );
+    chain(
+        b"v 2",
+        text,
+        b"030002000400050001fffffffffffffffe\n040003\n",
+    );
+    chain(
+        b"y 0",
+        text,
+        b"030001000400000001fffffffffffffffe\n040003\n",
+    );
+    chain(
+        b"x 1, y 5",
+        text,
+        b"0300010001000500040000000000000002\n040003\n",
+    );
+    chain(
+        b"x 5, y 4",
+        text,
+        b"0300010005000400010000000000000001\n040003\n",
+    );
+}
+
+// Endings on T.
+fn endings(text: &[u8]) {
+    chain(
+        b"drops 2",
+        text,
+        b"030001000400050001fffffffffffffffe\n040002\n",
+    );
+    chain(
+        b"drops 2, and a broken ending",
+        text,
+        b"030001000400050001fffffffffffffffe\n040002",
+    );
+    chain(
+        b"a byte left over",
+        text,
+        b"030001000400050001fffffffffffffffe\n040003\n0",
+    );
+    chain_short(
+        b"a buffer of 55 bytes",
+        text,
+        b"030001000400050001fffffffffffffffe\n040003\n",
+    );
+}
+
+// The district of four cabinets.
+fn square(text: &[u8]) {
+    chain(
+        b"four cabinets",
+        text,
+        b"030002000300020007fffffffffffffffe\n0300030005000700060000000000000003\n040001\n",
+    );
+    chain(
+        b"its second step first",
+        text,
+        b"0300030005000700060000000000000003\n030002000300020007fffffffffffffffe\n040001\n",
+    );
+    chain(
+        b"its second step at v 1",
+        text,
+        b"030002000300020007fffffffffffffffe\n0300010005000700060000000000000003\n040001\n",
+    );
+    chain(
+        b"cable 3, which has retired, for the second step's z",
+        text,
+        b"030002000300020007fffffffffffffffe\n0300030005000700030000000000000003\n040001\n",
+    );
+}
+
+fn main() {
+    let printed =
+        b"0100030000\n020000000000010000000000000007\n020001000000010000000000000004\n020002000000020000000000000001\n\
+            020003000000020000000000000002\n020004000100020000000000000006\n020005000100020000000000000003\n";
+    steps(printed);
+    thirds::run(printed);
+    endings(printed);
+    let four =
+        b"0100040004\n020000000000010000000000000002\n020001000000010000000000000005\n020002000200030000000000000001\n\
+            020003000200030000000000000004\n020004000000020000000000000009\n020005000100030000000000000003\n\
+            020006000000030000000000000006\n020007000100020000000000000002\n";
+    square(four);
+    columns::run();
+}
