@@ -3,7 +3,7 @@
 //! Here every answer comes in vectors of its own. [`raw`] has the same services over slices that the caller lends.
 //!
 //! [`plan`], [`plan_candidates`], [`plan_table`] and [`check_chain`] go as deep as there are vertices: a thread that
-//! calls them needs 1.6 MB of stack for 256 vertices, which the threads of the standard library have.
+//! calls them needs 1.5 MB of stack for 256 vertices, which the threads of the standard library have.
 //!
 //! ```
 //! let network = b"0100020000\n\
