@@ -49,8 +49,8 @@ fn chain_short(what: &[u8], text: &[u8], proposed: &[u8]) {
     }
 }
 
-// Chains on T: their form, and v, x and y.
-fn steps(text: &[u8]) {
+// Chains on T: the printed one, and their form.
+fn forms(text: &[u8]) {
     chain(
         b"T as printed",
         text,
@@ -64,6 +64,10 @@ fn steps(text: &[u8]) {
         text,
         b"030001000400050001fffffffe\n040003\n",
     );
+}
+
+// Chains on T: v, x and y.
+fn partners(text: &[u8]) {
     chain(
         b"v 2",
         text,
@@ -138,7 +142,8 @@ fn main() {
     let printed =
         b"0100030000\n020000000000010000000000000007\n020001000000010000000000000004\n020002000000020000000000000001\n\
             020003000000020000000000000002\n020004000100020000000000000006\n020005000100020000000000000003\n";
-    steps(printed);
+    forms(printed);
+    partners(printed);
     thirds::run(printed);
     endings(printed);
     let four =

@@ -30,8 +30,8 @@ fn other_cables(text: &[u8]) {
     );
 }
 
-// Other costs for z, which gets 4 - 6: on both sides, of the other sign, before the step, with x's added.
-fn other_costs(text: &[u8]) {
+// Other costs for z, which gets 4 - 6: on both sides, and of the other sign.
+fn near_costs(text: &[u8]) {
     chain(
         b"cost -1",
         text,
@@ -47,6 +47,10 @@ fn other_costs(text: &[u8]) {
         text,
         b"0300010004000500010000000000000002\n040003\n",
     );
+}
+
+// Its cost before the step, with x's added, and both ends of 64 bits.
+fn far_costs(text: &[u8]) {
     chain(
         b"cost 4",
         text,
@@ -95,6 +99,7 @@ fn in_order(text: &[u8]) {
 
 pub fn run(text: &[u8]) {
     other_cables(text);
-    other_costs(text);
+    near_costs(text);
+    far_costs(text);
     in_order(text);
 }
