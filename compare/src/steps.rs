@@ -11,7 +11,7 @@ use crate::chains::{chain_text, check_into, meets};
 use crate::difference::{Compared, Words};
 
 /// Larger networks take long, since there is one for each fault and place.
-const MOST_VERTICES: usize = 9;
+const MOST_VERTICES: usize = 6;
 
 /// A chain by rule over an accepted network, and the same one with a fault.
 pub struct Case {
