@@ -22,7 +22,7 @@ use Rattle.graph.specs.declared.Network.{Network}
 use Rattle.graph.specs.declared.Step.{Step}
 use Rattle.base.proofs.Bools.{never, eqb-self, eqb-no}
 use Rattle.base.proofs.Sums.{tabulate-length, tabulate-at}
-use Rattle.graph.proofs.Partners.{touch-ends, touches-at, starts-at, among-without}
+use Rattle.graph.proofs.Partners.{among-without}
 use Rattle.graph.proofs.Lifting.{lift-cuts, ratio-step}
 use Rattle.graph.proofs.Endings.{last-of, of-last, not-last, end-good}
 use Rattle.graph.proofs.Rules.{Stepped, stepped, sound-step}

@@ -1,5 +1,4 @@
 -- `rules::choice::step_with` meets its contract.
-use mathlib.Core.Path.{ap, _∙_}
 use mir.Facts.{toZ-ofZ}
 use borrow.Author.Needs.{needs}
 use Rattle.graph.proofs.Differences.{difference-small}

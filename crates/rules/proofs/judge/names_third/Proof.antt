@@ -1,5 +1,5 @@
 -- `rules::judge::names_third` meets its contract: costs are one where their bits are.
-use mathlib.Core.Path.{_∙_, ap}
+use mathlib.Core.Path.{_∙_}
 use borrow.Author.Needs.{needs}
 use borrow.Author.Tests.{eq-eqb, ne-eqb}
 use mir.Syntax.{w64}
