@@ -77,6 +77,12 @@ loop-joins : {g : Network} {e v : ℕ} → Runs g e v v → Joins g e
 loop-joins (forward a b) = inr (a ∙ sym b)
 loop-joins (backward a b) = inr (a ∙ sym b)
 
+-- the low end of an edge between present vertices is present
+pub runs-low : {g : Network} {e v f : ℕ} → Runs g e v f → here g v ≡ true → here g f ≡ true
+    → here g (lowEnd g e) ≡ true
+runs-low (forward a b) h k = rw a h
+runs-low (backward a b) h k = rw a k
+
 -- how many ends an edge from v has at another vertex
 runs-ends : {g : Network} {e v f : ℕ} (w : ℕ) → Runs g e v f → endsAt g w e ≡ bit (eqb v w) + bit (eqb f w)
 unfolding endsAt
@@ -199,12 +205,14 @@ module _ {g : Network} (sound : Sound g) {v x y z u a b c : ℕ} (s : Star g v x
             (sound .joins e l)
 
     low-held : here (split g v x y z) (lowEnd (split g v x y z) (g .reserved)) ≡ true
-    low-held = go (split-reserved (sound .formed) s)
-      where
-        go : Runs (split g v x y z) (g .reserved) u a
-            → here (split g v x y z) (lowEnd (split g v x y z) (g .reserved)) ≡ true
-        go (forward p q) = rw p (far-stays (s .four .r<) (s .to-u) (s .u≢))
-        go (backward p q) = rw p (far-stays (s .four .x<) (s .to-a) (s .a≢))
+    low-held =
+        runs-low (split-reserved (sound .formed) s) (far-stays (s .four .r<) (s .to-u) (s .u≢))
+        (far-stays (s .four .x<) (s .to-a) (s .a≢))
+
+    low-z : here (split g v x y z) (lowEnd (split g v x y z) z) ≡ true
+    low-z =
+        runs-low (split-z (sound .formed) s) (far-stays (s .four .y<) (s .to-b) (s .b≢))
+        (far-stays (s .four .z<) (s .to-c) (s .c≢))
 
     -- retired edges cost nothing
     free-after : (e : ℕ) → e < g .edges → here (split g v x y z) (lowEnd (split g v x y z) e) ≡ false
@@ -214,21 +222,11 @@ module _ {g : Network} (sound : Sound g) {v x y z u a b c : ℕ} (s : Star g v x
         form : Formed g
         form = sound .formed
 
-        left : {e p q : ℕ} → Runs (split g v x y z) e p q → here (split g v x y z) p ≡ true
-            → here (split g v x y z) q ≡ true → here (split g v x y z) (lowEnd (split g v x y z) e) ≡ true
-        left (forward i j) hp hq = rw i hp
-        left (backward i j) hp hq = rw i hq
-
         go : Place g x y z e → costOf (split g v x y z) e ≡ pos 0
-        go (at-reserved q) =
-            never (sym h ∙ (rw q
-            (left (split-reserved form s) (far-stays (s .four .r<) (s .to-u) (s .u≢))
-            (far-stays (s .four .x<) (s .to-a) (s .a≢)))))
+        go (at-reserved q) = never (sym h ∙ rw q low-held)
         go (at-x q) = rw q (cost-x form s)
         go (at-y q) = rw q (cost-y form s)
-        go (at-z q) = never (sym h
-            ∙ (rw q (left (split-z form s) (far-stays (s .four .y<) (s .to-b) (s .b≢))
-            (far-stays (s .four .z<) (s .to-c) (s .c≢)))))
+        go (at-z q) = never (sym h ∙ rw q low-z)
         go (beside nr nx ny nz) =
             let lo = split-low form s e nr nx ny nz in
             let w = elsewhere g v e (s .rest e l nr nx ny nz) in
@@ -253,6 +251,50 @@ module _ {g : Network} (sound : Sound g) {v x y z u a b c : ℕ} (s : Star g v x
       held = unfold split in low-held;
       free = unfold split in free-after;
     }
+
+    -- ── which edges retire: x and y, and no other ──
+
+    -- an edge that is not retired afterwards was not before, and is neither x nor y
+    pub live-before : (e : ℕ) → e < g .edges → here (split g v x y z) (lowEnd (split g v x y z) e) ≡ true
+        → (e ≢ x) × (e ≢ y) × (here g (lowEnd g e) ≡ true)
+    live-before e l h = go (place g x y z e)
+      where
+        form : Formed g
+        form = sound .formed
+
+        was : {w : ℕ} → here (split g v x y z) w ≡ true → (here g w ≡ true) × (w ≢ v)
+        was {w} = split-here form v x y z v-here w
+
+        -- a loop at v is retired
+        at-loop : Runs (split g v x y z) e v v → ⊥
+        at-loop (forward a b) = was h .1 a
+        at-loop (backward a b) = was h .1 a
+
+        go : Place g x y z e → (e ≢ x) × (e ≢ y) × (here g (lowEnd g e) ≡ true)
+        go (at-reserved q) =
+            (λ p. s .four .rx (sym q ∙ p), λ p. s .four .ry (sym q ∙ p), rw q (sound .held))
+        go (at-x q) = absurd (at-loop (rw q (split-x form s)))
+        go (at-y q) = absurd (at-loop (rw q (split-y form s)))
+        go (at-z q) = (
+          λ p. s .four .xz (sym p ∙ q),
+          λ p. s .four .yz (sym p ∙ q),
+          rw q (runs-low (s .to-c) v-here (far-here (s .four .z<) (s .to-c))),
+        )
+        go (beside nr nx ny nz) = (nx, ny, was (rw (split-low form s e nr nx ny nz) at h) .0)
+
+    -- and another edge that is not retired stays so
+    pub live-after : (e : ℕ) → e < g .edges → here g (lowEnd g e) ≡ true → e ≢ x → e ≢ y
+        → here (split g v x y z) (lowEnd (split g v x y z) e) ≡ true
+    live-after e l h not-x not-y = go (place g x y z e)
+      where
+        go : Place g x y z e → here (split g v x y z) (lowEnd (split g v x y z) e) ≡ true
+        go (at-reserved q) = rw q low-held
+        go (at-x q) = absurd (not-x q)
+        go (at-y q) = absurd (not-y q)
+        go (at-z q) = rw q low-z
+        go (beside nr nx ny nz) =
+            rw (split-low (sound .formed) s e nr nx ny nz)
+            (still-here g v x y z (lowEnd g e) h (elsewhere g v e (s .rest e l nr nx ny nz) .0))
 
 -- sides that agree on the present vertices are crossed alike
 pub crossings-here : (g : Network) → ((e : ℕ) → e < g .edges → Joins g e) → (K : ℕ → Bool) (S U : Side)

@@ -1,0 +1,3 @@
+pub mod Departures
+pub mod Columns
+pub mod Explained
