@@ -11,7 +11,24 @@ ghost use Prim.Native.Nat.{_≤_};
 ghost use lib.ListN.{length};
 ghost use Rattle.base.specs.Answer.{answer, over, replyOf, after};
 ghost use Rattle.base.specs.Limits.{edgeLimit};
+ghost use Rattle.frame.specs.Table.{REASON, lineLength};
+ghost use Rattle.frame.specs.Line.{lineOf};
+ghost use Rattle.frame.specs.Kinds.{ofReason};
 ghost use Rattle.reasons_text.specs.Text.{reasonsText, reasonsLength};
+
+// Writes the line of an edge, its rule and its step to the start of `text`, and answers its length.
+fn put_reason(edge: usize, rule: u8, step: u16, text: &mut [u8]) -> usize
+    requires { ⌜ lineLength REASON ≤ length (now text) ⌝ }
+    ensures { λ r. ⌜ (r ≡ lineLength REASON) × (now (text .exit) ≡
+        over (lineOf REASON (ofReason (record { edge = edge; rule = rule; step = step }))) (now (text .entry))) ⌝ }
+{
+    let reason = Reason {
+        edge: edge as u64,
+        rule: rule as u64,
+        step: step as u64,
+    };
+    put_line(text, REASON, reason.fields())
+}
 
 // Writes the lines of the first edges, each with its rule and its step, to the start of `text`.
 fn put_reasons(rules: &[u8; EDGE_LIMIT], steps: &[u16; EDGE_LIMIT], edges: usize, text: &mut [u8])
@@ -22,12 +39,7 @@ fn put_reasons(rules: &[u8; EDGE_LIMIT], steps: &[u16; EDGE_LIMIT], edges: usize
     let mut at = 0;
     let mut edge = 0;
     while edge < edges {
-        let line = Reason {
-            edge: edge as u64,
-            rule: rules[edge] as u64,
-            step: steps[edge] as u64,
-        };
-        at += put_line(&mut text[at..], REASON, line.fields());
+        at += put_reason(edge, rules[edge], steps[edge], &mut text[at..]);
         edge += 1;
     }
 }
