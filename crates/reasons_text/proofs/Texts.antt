@@ -17,7 +17,7 @@ use Rattle.base.specs.Limits.{edgeLimit}
 use Rattle.base.proofs.Sums.{tabulate-length}
 use Rattle.base.proofs.Writing.{Written, written-none}
 use Rattle.frame.specs.Table.{REASON, bytesOf, padded, total, placeOf, startOf, widths, lineLength}
-use Rattle.frame.specs.Line.{lineOf, isLine, fieldsOf, Fits}
+use Rattle.frame.specs.Line.{lineOf, isLine, Fits}
 use Rattle.frame.specs.Frames.{linesOf}
 use Rattle.frame.specs.Kinds.{reasonOf, ofReason}
 use Rattle.frame.specs.declared.line.Fields.{Fields}
