@@ -17,6 +17,10 @@ longestKept = 3619
 abbrev pub longestTable : ℕ
 longestTable = 14863
 
+-- a reasons text (law `longest-reasons`)
+abbrev pub longestReasons : ℕ
+longestReasons = 6656
+
 -- a page (law `longest-page`)
 abbrev pub longestPage : ℕ
 longestPage = 18981

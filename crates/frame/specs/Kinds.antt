@@ -13,6 +13,7 @@ use Rattle.frame.specs.declared.kinds.Kept.{Kept}
 use Rattle.frame.specs.declared.kinds.Costs.{Costs}
 use Rattle.frame.specs.declared.kinds.TableHead.{TableHead}
 use Rattle.frame.specs.declared.kinds.Span.{Span}
+use Rattle.frame.specs.declared.kinds.Reason.{Reason}
 use Rattle.frame.specs.declared.kinds.Refusal.{Refusal}
 
 -- kind 01: n and the reserved cable
@@ -96,6 +97,13 @@ spanOf f =
 
 abbrev pub ofSpan : Span → Fields
 ofSpan s = fieldsFrom (s .lower ∷ s .higher ∷ s .weight ∷ unsignedOf spanCostDigits (s .cost) ∷ [])
+
+-- kind 0a: a cable, its rule and its step
+abbrev pub reasonOf : Fields → Reason
+reasonOf f = record { edge = f .first; rule = f .second; step = f .third }
+
+abbrev pub ofReason : Reason → Fields
+ofReason r = fieldsFrom (r .edge ∷ r .rule ∷ r .step ∷ [])
 
 -- kind 0f: a refusal
 abbrev pub refusalIn : Fields → Refusal

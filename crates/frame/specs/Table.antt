@@ -15,15 +15,16 @@ table =
     (0x06, 8 ∷ 8 ∷ []) ∷
     (0x08, 2 ∷ 2 ∷ 2 ∷ []) ∷
     (0x09, 2 ∷ 2 ∷ 1 ∷ 8 ∷ []) ∷
+    (0x0a, 2 ∷ 1 ∷ 2 ∷ []) ∷
     (0x0f, 1 ∷ []) ∷ []
 
 -- how many rows the table has
 abbrev pub rows : ℕ
-rows = 9
+rows = 10
 
 -- the rows by name: a network's head and its edges, a chain's
 -- steps and its ending, kept edges and their costs, a solver
--- table's head and its spans, a refusal
+-- table's head and its spans, an edge's reason, a refusal
 abbrev pub HEAD : ℕ
 HEAD = 0
 
@@ -48,8 +49,11 @@ TABLE-HEAD = 6
 abbrev pub SPAN : ℕ
 SPAN = 7
 
+abbrev pub REASON : ℕ
+REASON = 8
+
 abbrev pub REFUSAL : ℕ
-REFUSAL = 8
+REFUSAL = 9
 
 -- how many fields a frame can have
 abbrev pub fields : ℕ

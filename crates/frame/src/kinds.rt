@@ -15,7 +15,7 @@ ghost use Rattle.frame.specs.Table.{EDGE, STEP, COSTS, SPAN};
 ghost use Rattle.frame.specs.Line.{Fits};
 ghost use Rattle.frame.specs.Kinds.{headOf, ofHead, edgeOf, ofEdge, costDigits, stepOf, ofStep, droppedOf};
 ghost use Rattle.frame.specs.Kinds.{ofDropped, keptOf, ofKept, costsOf, ofCosts, tableHeadOf, spanOf, refusalIn};
-ghost use Rattle.frame.specs.Kinds.{ofRefusal};
+ghost use Rattle.frame.specs.Kinds.{ofReason, ofRefusal};
 
 // Kind 01: how many vertices a network has, and its reserved edge.
 pub struct Head {
@@ -69,6 +69,13 @@ pub struct Span {
     pub higher: u64,
     pub weight: u64,
     pub cost: i64,
+}
+
+// Kind 0a: an edge, the rule by which it stayed or left, and the step.
+pub struct Reason {
+    pub edge: u64,
+    pub rule: u64,
+    pub step: u64,
 }
 
 // Kind 0f: a refusal.
@@ -240,6 +247,19 @@ impl Span {
             higher: f.second,
             weight: f.third,
             cost: signed_of(f.fourth, digits_of(SPAN, SPAN_COST)),
+        }
+    }
+}
+
+impl Reason {
+    pub fn fields(self) -> Fields
+        ensures { λ r. ⌜ r ≡ ofReason self ⌝ }
+    {
+        Fields {
+            first: self.edge,
+            second: self.rule,
+            third: self.step,
+            ..ABSENT
         }
     }
 }

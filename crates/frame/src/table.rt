@@ -12,7 +12,7 @@ pub const FIELDS: usize = 5;
 // The columns of the table: the kind, the place of each field, the length.
 const COLUMNS: usize = 1 + FIELDS + 1;
 
-const ROWS: usize = 9;
+const ROWS: usize = 10;
 
 const BYTE_BITS: usize = 8;
 
@@ -33,7 +33,9 @@ pub const TABLE_HEAD: usize = 6;
 
 pub const SPAN: usize = 7;
 
-pub const REFUSAL: usize = 8;
+pub const REASON: usize = 8;
+
+pub const REFUSAL: usize = 9;
 
 // A row of the table is one number, with a byte for each column: the kind, the byte at which each field starts, and the
 // length in bytes. A field ends where the next one starts; an absent field has no bytes.
@@ -46,6 +48,7 @@ const TABLE: [u64; ROWS] = [
     0x06_01_09_11_11_11_11,
     0x08_01_03_05_07_07_07,
     0x09_01_03_05_06_0e_0e,
+    0x0a_01_03_04_06_06_06,
     0x0f_01_02_02_02_02_02,
 ];
 
