@@ -26,10 +26,10 @@ use Rattle.graph.proofs.Partners.{first-others, second-others, third-others, ch
 use Rattle.graph.proofs.Endings.{dearest-at, of-last, held-v, last-is}
 use Rattle.graph.proofs.Rules.{dearest-in, ending-ruled}
 use Rattle.graph.proofs.Backs.{end-marks}
-use Rattle.rules.specs.declared.ending.Ended.the-variants.{Keeping, Refused}
 use Rattle.rules.specs.declared.ending.Drop.{Drop}
 use Rattle.rules.specs.Running.{Last}
-use Rattle.rules.specs.Endings.{keptWith, endedBy, endedOf, chosenEnding}
+use Rattle.base.specs.Refusals.{NOT-DEAREST}
+use Rattle.rules.specs.Endings.{keptWith, chosenEnding}
 use Rattle.rules.proofs.Trios.{Trio, trio}
 use Rattle.rules.proofs.Judging.{Named}
 
@@ -57,8 +57,8 @@ module _ {g : Network} (l : Last g) where
 
 -- ── a proposed ending ──
 module _ {g : Network} (l : Last g) (d : ℕ) where
-  pub none-of-last : among d (partners g (lowEnd g (g .reserved))) ≡ false → Refused 12 ≡ endedOf g d
-  unfolding endedOf endedBy endRefusal
+  pub none-of-last : among d (partners g (lowEnd g (g .reserved))) ≡ false → NOT-DEAREST ≡ endRefusal g d
+  unfolding endRefusal
   none-of-last h = rw (last-three l, h)
 
   module _ {i j : ℕ} (n : Named g (lowEnd g (g .reserved)) d i j) where
@@ -89,12 +89,12 @@ module _ {g : Network} (l : Last g) (d : ℕ) where
         ∙ ap (among e) (n .others)
         ∙ h
 
-    cheap : (e : ℕ) → among e (lastEdges g) ≡ true → ltZ (costOf g d) (costOf g e) ≡ true → Refused 12 ≡ endedOf g d
-    unfolding endedOf endedBy endRefusal
+    cheap : (e : ℕ) → among e (lastEdges g) ≡ true → ltZ (costOf g d) (costOf g e) ≡ true → NOT-DEAREST ≡ endRefusal g d
+    unfolding endRefusal
     cheap e m h = go (dearest g d (lastEdges g)) refl
       where
         go : (t : Bool) → dearest g d (lastEdges g) ≡ t
-            → Refused 12 ≡ endedBy (cond (among d (lastEdges g) && dearest g d (lastEdges g)) 0 12) (keptWith g d)
+            → NOT-DEAREST ≡ cond (among d (lastEdges g) && dearest g d (lastEdges g)) 0 NOT-DEAREST
         go true q =
             absurd (omega (
               arith,
@@ -103,23 +103,23 @@ module _ {g : Network} (l : Last g) (d : ℕ) where
             ))
         go false q = rw (ap (among d) (last-three l) ∙ n .x-in, q)
 
-    pub cheaper-low : ltZ (costOf g d) (costOf g i) ≡ true → Refused 12 ≡ endedOf g d
+    pub cheaper-low : ltZ (costOf g d) (costOf g i) ≡ true → NOT-DEAREST ≡ endRefusal g d
     unfolding among
     cheaper-low = cheap i (in-last i (rw eqb-self) (λ e. n .at .four .xy (sym e)))
 
-    pub cheaper-high : ltZ (costOf g d) (costOf g j) ≡ true → Refused 12 ≡ endedOf g d
+    pub cheaper-high : ltZ (costOf g d) (costOf g j) ≡ true → NOT-DEAREST ≡ endRefusal g d
     unfolding among
     cheaper-high = cheap j (in-last j (rw (eqb-self j, or-true)) (λ e. n .at .four .xz (sym e)))
 
-    pub keeps-two : ltZ (costOf g d) (costOf g i) ≡ false → ltZ (costOf g d) (costOf g j) ≡ false
-        → Keeping i j ≡ endedOf g d
-    unfolding endedOf endedBy endRefusal
-    keeps-two hi hj =
+    pub dearer-two : ltZ (costOf g d) (costOf g i) ≡ false → ltZ (costOf g d) (costOf g j) ≡ false
+        → 0 ≡ endRefusal g d
+    unfolding endRefusal
+    dearer-two hi hj =
         let dear : dearest g d (lastEdges g) ≡ true =
         dearest-in g d (lastEdges g) (λ e m. one-of e m (λ e. leZ (costOf g e) (costOf g d) ≡ true)
         (le-test (costOf g d) (costOf g d) (omega arith)) (le-not-lt (costOf g i) (costOf g d) ∙ ap not hi)
         (le-not-lt (costOf g j) (costOf g d) ∙ ap not hj)) in
-        rw (ap (among d) (last-three l) ∙ n .x-in, dear, last-three l, n .others)
+        rw (ap (among d) (last-three l) ∙ n .x-in, dear)
 
 -- the two edges that an ending by rule keeps, and their marks
 module _ {g : Network} (l : Last g) (d : ℕ) (passed : endRefusal g d ≡ 0) where

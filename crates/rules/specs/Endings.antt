@@ -1,28 +1,18 @@
--- What is found of a proposed ending, and the planner's ending.
+-- The edges that an ending keeps, and the planner's ending.
 use mathlib.Core.Bool.{Bool}
 use mathlib.Core.List.{List, [], _∷_}
-use Prim.Native.Nat.{ℕ, zero, suc}
+use Prim.Native.Nat.{ℕ}
 use lib.ListN.{getD}
 use Rattle.base.specs.Fold.{without, among, tabulate}
-use Rattle.graph.specs.Chain.{lastEdges, endRefusal}
+use Rattle.graph.specs.Chain.{lastEdges}
 use Rattle.graph.specs.Plan.{chosenDrop}
 use Rattle.base.specs.Limits.{edgeLimit}
 use Rattle.graph.specs.declared.Network.{Network}
-use Rattle.rules.specs.declared.ending.Ended.{Ended}
-use Rattle.rules.specs.declared.ending.Ended.the-variants.{Keeping, Refused}
 use Rattle.rules.specs.declared.ending.Drop.{Drop}
 
 -- the edges of the last three that are not d
 abbrev pub keptWith : Network → ℕ → List ℕ
 keptWith g d = without d (lastEdges g)
-
--- a refusal, or the two edges that are kept
-unfoldable pub endedBy : ℕ → List ℕ → Ended
-endedBy zero is = Keeping (getD is 0 0) (getD is 1 0)
-endedBy (suc k) is = Refused (suc k)
-
-unfoldable pub endedOf : Network → ℕ → Ended
-endedOf g d = endedBy (endRefusal g d) (keptWith g d)
 
 -- dropping d, with the two edges that are kept
 abbrev pub dropping : ℕ → List ℕ → Drop

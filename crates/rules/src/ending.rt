@@ -9,18 +9,12 @@ use incidence::Partners;
 use incidence::partners_at;
 ghost use mathlib.Core.Path.{_≡_};
 ghost use Prim.Native.Nat.{_<_};
-ghost use Rattle.graph.specs.Chain.{lastEdges};
+ghost use Rattle.graph.specs.Chain.{lastEdges, endRefusal};
 ghost use Rattle.graph.specs.State.{noMarks};
 ghost use Rattle.incidence.specs.Partners.{firstThree};
 ghost use Rattle.base.specs.Limits.{edgeLimit};
 ghost use Rattle.rules.specs.Running.{Last};
-ghost use Rattle.rules.specs.Endings.{endedOf, chosenEnding, twoMarked};
-
-// The two edges that an ending by rule keeps, or its refusal.
-pub enum Ended {
-    Keeping(usize, usize),
-    Refused(u8),
-}
+ghost use Rattle.rules.specs.Endings.{chosenEnding, twoMarked};
 
 // The edge that an ending drops and the two that it keeps.
 pub struct Drop {
@@ -39,22 +33,22 @@ fn last_three(network: Network) -> Partners
     partners_at(network, v)
 }
 
-// The ending that drops d: refusal 12, or the two edges that it keeps.
-pub fn end_with(network: Network, d: usize) -> Ended
+// Judges the ending that drops d: refusal 12, or 0.
+pub fn judge_ending(network: Network, d: usize) -> u8
     requires { ⌜ Last network ⌝ }
-    ensures { λ r. ⌜ r ≡ endedOf network d ⌝ }
+    ensures { λ r. ⌜ r ≡ endRefusal network d ⌝ }
 {
     let last = last_three(network);
     let Others::Two(low, high) = others_than(last, d) else {
-        return Ended::Refused(NOT_DEAREST);
+        return NOT_DEAREST;
     };
     if cheaper(network, d, low) {
-        return Ended::Refused(NOT_DEAREST);
+        return NOT_DEAREST;
     }
     if cheaper(network, d, high) {
-        return Ended::Refused(NOT_DEAREST);
+        return NOT_DEAREST;
     }
-    Ended::Keeping(low, high)
+    0
 }
 
 // The planner's ending drops the dearest of the last three, and of equally dear ones the highest number.

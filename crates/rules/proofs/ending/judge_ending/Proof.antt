@@ -1,12 +1,12 @@
--- `rules::ending::end_with` meets its contract.
+-- `rules::ending::judge_ending` meets its contract.
 use mathlib.Core.Path.{sym, _∙_}
 use borrow.Author.Needs.{needs}
 use Rattle.graph.specs.Network.{lowEnd}
 use Rattle.rules.proofs.Trios.{costed}
 use Rattle.rules.proofs.Judging.{Named, others-found, others-missing}
-use Rattle.rules.proofs.Ends.{last-trio, none-of-last, cheaper-low, cheaper-high, keeps-two}
-use Rattle.rules.proofs.ending.end_with.Statement.{statement}
-use Rattle.rules.proofs.ending.end_with.Tie as tie
+use Rattle.rules.proofs.Ends.{last-trio, none-of-last, cheaper-low, cheaper-high, dearer-two}
+use Rattle.rules.proofs.ending.judge_ending.Statement.{statement}
+use Rattle.rules.proofs.ending.judge_ending.Tie as tie
 
 abbrev entry : tie.After-known-told → tie.Start
 entry c = c .before .before .before .before .before
@@ -64,11 +64,11 @@ returns-4 : tie.Need-returns-4
 returns-4 c =
     let e = c .before .before in
     let k = e .before .before in
-    keeps-two (entry k .pre) (entry k .args .d) (named k) (sym (e .before .cheaper .ensures) ∙ e .if1 .left)
+    dearer-two (entry k .pre) (entry k .args .d) (named k) (sym (e .before .cheaper .ensures) ∙ e .if1 .left)
     (sym (c .before .cheaper2 .ensures) ∙ c .if2 .left)
 
-pub end-with-spec : {M : Type 1} → statement M
-end-with-spec =
+pub judge-ending-spec : {M : Type 1} → statement M
+judge-ending-spec =
     tie.close
     (tie.spec
     last-three-requires
