@@ -1,7 +1,7 @@
 -- How the frames of a chain decide its verdict, one after the other.
 use mathlib.Core.Path.{_≡_, refl, sym, _∙_, ap}
 use mathlib.Core.Bool.{Bool, true, false}
-use mathlib.Core.List.{List}
+use mathlib.Core.List.{List, _∷_}
 use Prim.Native.Nat.{ℕ, zero, suc, _+_, _-_, _≤_, _<_}
 use native.Mathlib.Omega.{arith}
 use lib.ListN.{length, drop}
@@ -11,21 +11,25 @@ use Rattle.base.specs.Answer.{Answer, answer, refused, unless, refusalOf, numbe
 use Rattle.base.specs.Refusals.{FORM}
 use Rattle.frame.specs.Table.{STEP, DROPPED, lineLength}
 use Rattle.frame.specs.Line.{isLine}
+use Rattle.base.specs.Limits.{edgeLimit}
+use Rattle.departures.specs.Columns.{allLast, noSteps, endingNoted, rulesBack, stepsBack}
+use Rattle.departures.proofs.Columns.{rules-ended, steps-ended, rules-back, steps-back}
 use Rattle.graph.specs.Split.{split, after}
 use Rattle.graph.specs.Chain.{stepRefusal, endRefusal, endKept, lift, lifted}
 use Rattle.graph.specs.declared.Network.{Network}
 use Rattle.graph.specs.declared.Step.{Step}
-use Rattle.claim.specs.Verdicts.{stepIn, droppedIn, leftOver, checkEnding, checkChain, marksAfter}
+use Rattle.claim.specs.Verdicts.{stepIn, droppedIn, leftOver, checkEnding, checkChain, stepsIn, dropIn}
+use Rattle.claim.specs.Verdicts.{rulesIn, numbersIn, columnAfter}
 
 -- ── what a verdict leaves ──
 module _ {w : Answer (List Bool)} where
-  pub refused-leaves : {k : ℕ} → w ≡ refused k → (old : List Bool) → (k ≡ refusalOf w) × (old ≡ marksAfter w old)
+  pub refused-leaves : {k : ℕ} → w ≡ refused k → (k ≡ refusalOf w) × ((due old : List ℕ) → old ≡ columnAfter w due old)
   unfolding refusalOf numberGiven
-  refused-leaves e old = (rw e, rw e)
+  refused-leaves e = (rw e, λ due old. rw e)
 
-  pub kept-leaves : {K : List Bool} → w ≡ answer K → (old : List Bool) → (0 ≡ refusalOf w) × (K ≡ marksAfter w old)
+  pub kept-leaves : {K : List Bool} → w ≡ answer K → (0 ≡ refusalOf w) × ((due old : List ℕ) → due ≡ columnAfter w due old)
   unfolding refusalOf numberGiven
-  kept-leaves e old = (rw e, rw e)
+  kept-leaves e = (rw e, λ due old. rw e)
 
 -- and the other way round
 pub was-refused : (w : Answer (List Bool)) {k : ℕ} → k ≡ refusalOf w → 0 < k → w ≡ refused k
@@ -34,10 +38,10 @@ was-refused (refused j) e l = ap refused (sym e)
 was-refused (answer K) e l = absurd (omega arith)
 
 pub was-kept : (w : Answer (List Bool)) → ((j : ℕ) → w ≡ refused j → 0 < j) → {k : ℕ} → k ≡ refusalOf w → k ≤ 0
-    → (old : List Bool) {K : List Bool} → K ≡ marksAfter w old → w ≡ answer K
-unfolding refusalOf numberGiven
-was-kept (refused j) numbered e l old m = absurd (omega (arith, numbered j refl))
-was-kept (answer L) numbered e l old m = ap answer (sym m)
+    → (K : List Bool) × (w ≡ answer K)
+unfolding refusalOf
+was-kept (refused j) numbered e l = absurd (omega (arith, numbered j refl))
+was-kept (answer K) numbered e l = (K, refl)
 
 -- going back through a step
 module _ (t : Step) {w : Answer (List Bool)} where
@@ -130,3 +134,45 @@ module _ (g : Network) (text : List ℕ) (at : ℕ) where
               checkChain (g .remaining - 1 - 2) k (drop (at + lineLength STEP) text)
               ≡ checkChain (k .remaining - 2) k (drop (at + lineLength STEP) text)
           left = unfold after split in refl
+
+-- ── the columns, by the vertices that remain ──
+module _ (k : ℕ) (g : Network) (text : List ℕ) (at : ℕ) where
+  -- an ending's
+  module _ (two : g .remaining ≤ 2) where
+    pub rules-at-end : endingNoted (g .reserved) (droppedIn (drop at text)) allLast ≡ rulesIn k g (drop at text)
+    unfolding rulesIn stepsIn dropIn
+    rules-at-end =
+        let e : g .remaining - 2 ≡ 0 = omega arith in rw e (rules-ended k g (droppedIn (drop at text)))
+
+    pub numbers-at-end : noSteps ≡ numbersIn k g (drop at text)
+    unfolding numbersIn stepsIn dropIn
+    numbers-at-end =
+        let e : g .remaining - 2 ≡ 0 = omega arith in rw e (steps-ended k g (droppedIn (drop at text)))
+
+  -- a step's, where t is the step that the frame names, h the network after it, and next the place behind its line
+  module _ (more : 2 < g .remaining) (t : Step) (named : t ≡ stepIn (drop at text)) (next : ℕ) (h : Network)
+    (after-is : h ≡ after g t) (place : next ≡ at + lineLength STEP) where
+      one-step : suc (h .remaining - 2) ≡ g .remaining - 2
+      one-step = unfold after split in omega (arith, ap (λ h. h .remaining) after-is)
+
+      behind : drop (lineLength STEP) (drop at text) ≡ drop next text
+      behind = drop-drop (lineLength STEP) at text ∙ ap (λ n. drop n text) (sym place)
+
+      steps-are : stepsIn (g .remaining - 2) (drop at text) ≡ t ∷ stepsIn (h .remaining - 2) (drop next text)
+      unfolding stepsIn
+      steps-are = rw (← one-step, behind, named)
+
+      drop-is : dropIn (g .remaining - 2) (drop at text) ≡ dropIn (h .remaining - 2) (drop next text)
+      unfolding dropIn
+      drop-is =
+          ap (λ n. dropIn n (drop at text)) (sym one-step) ∙ ap (dropIn (h .remaining - 2)) behind
+
+      pub rules-at-more : t .z < edgeLimit
+          → rulesBack (t .x) (t .y) (t .z) (rulesIn (suc k) h (drop next text)) ≡ rulesIn k g (drop at text)
+      unfolding rulesIn
+      rules-at-more l = rw (steps-are, drop-is, after-is) (rules-back k g t _ _ l)
+
+      pub numbers-at-more : stepsBack (t .x) (t .y) k (numbersIn (suc k) h (drop next text))
+          ≡ numbersIn k g (drop at text)
+      unfolding numbersIn
+      numbers-at-more = rw (steps-are, drop-is, after-is) (steps-back k g t _ _)

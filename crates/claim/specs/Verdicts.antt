@@ -1,7 +1,7 @@
 -- The check of a chain's bytes, frame by frame.
 use mathlib.Core.Bool.{Bool, cond}
-use mathlib.Core.List.{List}
-use Prim.Native.Nat.{ℕ, zero, suc}
+use mathlib.Core.List.{List, [], _∷_}
+use Prim.Native.Nat.{ℕ, zero, suc, _-_}
 use lib.Dec.{leb}
 use lib.ListN.{length, drop}
 use Rattle.base.specs.Answer.{Answer, answer, refused, unless, numberGiven}
@@ -9,6 +9,7 @@ use Rattle.base.specs.Refusals.{FORM}
 use Rattle.frame.specs.Table.{STEP, DROPPED, lineLength}
 use Rattle.frame.specs.Line.{isLine, fieldsOf}
 use Rattle.frame.specs.Kinds.{stepOf, droppedOf}
+use Rattle.departures.specs.Columns.{ruleColumn, stepColumn}
 use Rattle.graph.specs.Split.{after}
 use Rattle.graph.specs.Chain.{stepRefusal, endRefusal, endKept, lifted}
 use Rattle.graph.specs.declared.Network.{Network}
@@ -40,8 +41,26 @@ checkChain (suc n) g t =
     (checkChain n (after g (stepIn t)) (drop (lineLength STEP) t)) in
     cond (isLine STEP t) (unless (stepRefusal g (stepIn t)) later) (refused FORM)
 
+-- ── what was checked ──
+
+-- the steps that n frames 03 name, and the edge that the frame behind them drops
+unfoldable pub stepsIn : ℕ → List ℕ → List Step
+stepsIn zero t = []
+stepsIn (suc n) t = stepIn t ∷ stepsIn n (drop (lineLength STEP) t)
+
+unfoldable pub dropIn : ℕ → List ℕ → ℕ
+dropIn zero t = droppedIn t
+dropIn (suc n) t = dropIn n (drop (lineLength STEP) t)
+
 -- ── what the code answers ──
 
--- marks that were lent, afterwards: what is kept, or with a refusal the marks as they were
-abbrev pub marksAfter : Answer (List Bool) → List Bool → List Bool
-marksAfter a old = numberGiven (λ K. K) a old
+-- the columns of how each edge leaves in the chain of some bytes, whose next step has the number k
+unfoldable pub rulesIn : ℕ → Network → List ℕ → List ℕ
+rulesIn k g t = let n = g .remaining - 2 in ruleColumn k g (stepsIn n t) (dropIn n t)
+
+unfoldable pub numbersIn : ℕ → Network → List ℕ → List ℕ
+numbersIn k g t = let n = g .remaining - 2 in stepColumn k g (stepsIn n t) (dropIn n t)
+
+-- a column that was lent, afterwards: what is due to it, or with a refusal the column as it was
+abbrev pub columnAfter : Answer (List Bool) → List ℕ → List ℕ → List ℕ
+columnAfter a due old = numberGiven (λ K. due) a old

@@ -5,6 +5,7 @@ mod kept;
 mod network;
 mod planner;
 
+pub use chain::check_from;
 pub use checker::check_chain;
 pub use network::accept_text;
 pub use network::check_loaded;

@@ -1,51 +1,31 @@
--- `thinning::chain::check_from` meets its contract; the vertices that remain are fewer at each call.
-use mathlib.Core.Path.{_≡_, sym, _∙_, ap}
-use mathlib.Core.List.{List}
-use Prim.Native.Nat.{ℕ, _-_, _<_}
-use native.Mathlib.Omega.{arith}
-use lib.ListN.{drop}
-use mir.Syntax.{w64}
-use mir.Val.{toZ, ofZ}
-use mir.Facts.{toZ-ofZ}
-use borrow.Author.Needs.{needs}
+use Prim.Native.Nat.{ℕ, _<_}
 use borrow.Fn.Kinds.{In}
 use borrow.Fn.PlainCycle.{Measures, is, falls, and}
-use Rattle.frame.specs.Table.{STEP}
-use Rattle.frame.specs.Kinds.{stepOf}
-use Rattle.frame.proofs.Runs.{Next, read-as, next-read, none-read}
-use Rattle.graph.specs.Split.{after}
-use Rattle.graph.specs.Chain.{stepRefusal, lifted}
-use Rattle.graph.specs.State.{Splittable}
-use Rattle.graph.specs.declared.Step.{Step}
-use Rattle.rules.specs.Running.{Running}
-use Rattle.rules.proofs.Steps.{step-splittable, running-after, v-below, fewer}
-use Rattle.claim.specs.Verdicts.{stepIn, checkChain}
-use Rattle.claim.proofs.Chains.{refused-leaves, kept-leaves, was-refused, was-kept, lifted-refused}
-use Rattle.claim.proofs.Chains.{lifted-kept, chain-end, chain-at-broken, chain-at-refused, chain-at-more}
-use Rattle.claim.proofs.Meets.{chain-numbered}
 use Rattle.thinning.proofs.chain.check_from.Reads as check-from
 use Rattle.thinning.proofs.chain.check_from.Kinds as check-from-kinds
-use Rattle.thinning.proofs.chain.+check_from.Lts-check_from as lts
+use Rattle.thinning.proofs.chain.+check_from.Lts-check_from as check-from-lts
+use Rattle.departures.proofs.note_step.Reads as note-step-reads
+use Rattle.frame.proofs.kinds.Step.of.Reads as of-reads
 use Rattle.frame.proofs.read_line.Reads as read-line-reads
 use Rattle.graph.proofs.Network.split.Reads as split-reads
-use Rattle.graph.proofs.lift_marks.Reads as lift-marks-reads
 use Rattle.rules.proofs.judge_step.Reads as judge-step-reads
 use Rattle.thinning.proofs.chain.check_ending.Reads as check-ending-reads
-use Rattle.frame.proofs.kinds.Step.of.Reads as of-reads
 use Rattle.thinning.proofs.chain.+check_from.{statement}
 use Rattle.thinning.proofs.chain.+check_from.Tie.{close}
 
-abbrev μ-check-from : Measures 2 check-from-kinds.ps ℕ
-μ-check-from κs a = a .0 .remaining
+abbrev μ-check-from : Measures 3 check-from-kinds.ps ℕ
+μ-check-from κs a = ?
 
-abbrev at : ℕ → In 2 check-from-kinds.ps
-at t = and 2 check-from-kinds.ps (is 2 check-from-kinds.ps μ-check-from t) check-from.Pre
+abbrev check-from-at : ℕ → In 3 check-from-kinds.ps
+check-from-at t =
+    and 3 check-from-kinds.ps (is 3 check-from-kinds.ps μ-check-from t) check-from.Pre
 
-abbrev below : ℕ → In 2 check-from-kinds.ps
-below t = and 2 check-from-kinds.ps (falls 2 check-from-kinds.ps _<_ μ-check-from t) check-from.Pre
+abbrev check-from-below : ℕ → In 3 check-from-kinds.ps
+check-from-below t =
+    and 3 check-from-kinds.ps (falls 3 check-from-kinds.ps _<_ μ-check-from t) check-from.Pre
 
-abbrev claims : ℕ → lts.Claims
-claims t = (
+-- src/chain.rt:77:9
+check-from-check-ending-requires : (t : ℕ) → check-from-lts.Need-check-ending-requires (
   check-ending-reads.Asked,
   check-ending-reads.Learnt,
   read-line-reads.Asked,
@@ -56,180 +36,350 @@ claims t = (
   judge-step-reads.Learnt,
   split-reads.Asked,
   split-reads.Learnt,
-  below t,
+  check-from-below t,
   check-from.Post,
-  lift-marks-reads.Asked,
-  lift-marks-reads.Learnt,
-)
+  note-step-reads.Asked,
+  note-step-reads.Learnt,
+) (check-from-at t) check-from.Post
+check-from-check-ending-requires t c κs = ?
 
-module _ (t : ℕ) where
-  -- the frame 03 that was read
-  read : (c : lts.After-known-told (claims t) (at t) check-from.Post) → let a = c .before .before .before .before .before .before .args in
-      Next STEP (a .at) (a .chain .now) (c .before .fields .given .0 .0) (c .before .fields .given .0 .1 .0)
-  read c =
-      next-read STEP _ _ _ _ (read-as (c .before .fields .given .1) (c .before .before .before .read-line .ensures))
+-- src/chain.rt:77:9
+check-from-returns : (t : ℕ) → check-from-lts.Need-returns (
+  check-ending-reads.Asked,
+  check-ending-reads.Learnt,
+  read-line-reads.Asked,
+  read-line-reads.Learnt,
+  of-reads.Asked,
+  of-reads.Learnt,
+  judge-step-reads.Asked,
+  judge-step-reads.Learnt,
+  split-reads.Asked,
+  split-reads.Learnt,
+  check-from-below t,
+  check-from.Post,
+  note-step-reads.Asked,
+  note-step-reads.Learnt,
+) (check-from-at t) check-from.Post
+check-from-returns t c = ?
 
-  -- the entry, seen from the place where the step was judged
-  abbrev entry : lts.After-judge-step (claims t) (at t) check-from.Post → lts.Start (claims t) (at t) check-from.Post
-  entry c = c .before .before .before .before .before .before .before .before .before
+-- src/chain.rt:79:37
+check-from-read-line-requires : (t : ℕ) → check-from-lts.Need-read-line-requires (
+  check-ending-reads.Asked,
+  check-ending-reads.Learnt,
+  read-line-reads.Asked,
+  read-line-reads.Learnt,
+  of-reads.Asked,
+  of-reads.Learnt,
+  judge-step-reads.Asked,
+  judge-step-reads.Learnt,
+  split-reads.Asked,
+  split-reads.Learnt,
+  check-from-below t,
+  check-from.Post,
+  note-step-reads.Asked,
+  note-step-reads.Learnt,
+) (check-from-at t) check-from.Post
+check-from-read-line-requires t c κs = ?
 
-  abbrev run : (c : lts.After-judge-step (claims t) (at t) check-from.Post) → Running (entry c .args .network)
-  run c = entry c .pre .1 .0
+-- src/chain.rt:79:21
+check-from-enum-known-fields : (t : ℕ) → check-from-lts.Need-enum-known-fields (
+  check-ending-reads.Asked,
+  check-ending-reads.Learnt,
+  read-line-reads.Asked,
+  read-line-reads.Learnt,
+  of-reads.Asked,
+  of-reads.Learnt,
+  judge-step-reads.Asked,
+  judge-step-reads.Learnt,
+  split-reads.Asked,
+  split-reads.Learnt,
+  check-from-below t,
+  check-from.Post,
+  note-step-reads.Asked,
+  note-step-reads.Learnt,
+) (check-from-at t) check-from.Post
+check-from-enum-known-fields t c = ?
 
-  abbrev rest : lts.After-judge-step (claims t) (at t) check-from.Post → List ℕ
-  rest c = drop (entry c .args .at) (entry c .args .chain .now)
+-- src/chain.rt:80:9
+check-from-enum-told : (t : ℕ) → check-from-lts.Need-enum-told (
+  check-ending-reads.Asked,
+  check-ending-reads.Learnt,
+  read-line-reads.Asked,
+  read-line-reads.Learnt,
+  of-reads.Asked,
+  of-reads.Learnt,
+  judge-step-reads.Asked,
+  judge-step-reads.Learnt,
+  split-reads.Asked,
+  split-reads.Learnt,
+  check-from-below t,
+  check-from.Post,
+  note-step-reads.Asked,
+  note-step-reads.Learnt,
+) (check-from-at t) check-from.Post
+check-from-enum-told t c = ?
 
-  more : (c : lts.After-judge-step (claims t) (at t) check-from.Post) → 2 < entry c .args .network .remaining
-  more c = c .before .before .before .before .before .before .before .if1 .left
+-- src/chain.rt:80:9
+check-from-returns-2 : (t : ℕ) → check-from-lts.Need-returns-2 (
+  check-ending-reads.Asked,
+  check-ending-reads.Learnt,
+  read-line-reads.Asked,
+  read-line-reads.Learnt,
+  of-reads.Asked,
+  of-reads.Learnt,
+  judge-step-reads.Asked,
+  judge-step-reads.Learnt,
+  split-reads.Asked,
+  split-reads.Learnt,
+  check-from-below t,
+  check-from.Post,
+  note-step-reads.Asked,
+  note-step-reads.Learnt,
+) (check-from-at t) check-from.Post
+check-from-returns-2 t c = ?
 
-  -- the step that the frame names
-  abbrev judged : lts.After-judge-step (claims t) (at t) check-from.Post → Step
-  judged c =
-      let s = c .before .before .of .result in
-      record { v = s .v; x = s .x; y = s .y; z = s .z; cost = toZ w64 (ofZ w64 (s .cost)) }
+-- src/chain.rt:82:9
+check-from-of-requires : (t : ℕ) → check-from-lts.Need-of-requires (
+  check-ending-reads.Asked,
+  check-ending-reads.Learnt,
+  read-line-reads.Asked,
+  read-line-reads.Learnt,
+  of-reads.Asked,
+  of-reads.Learnt,
+  judge-step-reads.Asked,
+  judge-step-reads.Learnt,
+  split-reads.Asked,
+  split-reads.Learnt,
+  check-from-below t,
+  check-from.Post,
+  note-step-reads.Asked,
+  note-step-reads.Learnt,
+) (check-from-at t) check-from.Post
+check-from-of-requires t c κs = ?
 
-  named : (c : lts.After-judge-step (claims t) (at t) check-from.Post) → judged c ≡ stepIn (rest c)
-  named c =
-      let k = c .before .before in
-      rw (toZ-ofZ (record { sfits = c .before .struct-told .given .1 .1 .1 .1 .0 .1 }))
-      (ap (λ s. record { v = s .v; x = s .x; y = s .y; z = s .z; cost = s .cost })
-      (k .of .ensures ∙ ap stepOf (read (k .before) .fields)))
+-- src/chain.rt:87:9
+check-from-judge-step-requires : (t : ℕ) → check-from-lts.Need-judge-step-requires (
+  check-ending-reads.Asked,
+  check-ending-reads.Learnt,
+  read-line-reads.Asked,
+  read-line-reads.Learnt,
+  of-reads.Asked,
+  of-reads.Learnt,
+  judge-step-reads.Asked,
+  judge-step-reads.Learnt,
+  split-reads.Asked,
+  split-reads.Learnt,
+  check-from-below t,
+  check-from.Post,
+  note-step-reads.Asked,
+  note-step-reads.Learnt,
+) (check-from-at t) check-from.Post
+check-from-judge-step-requires t c κs = ?
 
-  -- it is by rule where it is not refused
-  by-rule : (c : lts.Else2 (claims t) (at t) check-from.Post)
-      → stepRefusal (entry (c .before) .args .network) (judged (c .before)) ≡ 0
-  by-rule c = omega (arith, c .before .judge-step .ensures, c .if2 .left)
+-- src/chain.rt:89:9
+check-from-returns-3 : (t : ℕ) → check-from-lts.Need-returns-3 (
+  check-ending-reads.Asked,
+  check-ending-reads.Learnt,
+  read-line-reads.Asked,
+  read-line-reads.Learnt,
+  of-reads.Asked,
+  of-reads.Learnt,
+  judge-step-reads.Asked,
+  judge-step-reads.Learnt,
+  split-reads.Asked,
+  split-reads.Learnt,
+  check-from-below t,
+  check-from.Post,
+  note-step-reads.Asked,
+  note-step-reads.Learnt,
+) (check-from-at t) check-from.Post
+check-from-returns-3 t c = ?
 
-  taken : (c : lts.Else2 (claims t) (at t) check-from.Post) → let s = judged (c .before) in
-      Splittable (entry (c .before) .args .network) (s .x) (s .y) (s .z)
-  taken c = let j = c .before in step-splittable (run j) (more j) (judged j) (by-rule c)
+-- src/chain.rt:91:29
+check-from-cast-split : (t : ℕ) → check-from-lts.Need-cast-split (
+  check-ending-reads.Asked,
+  check-ending-reads.Learnt,
+  read-line-reads.Asked,
+  read-line-reads.Learnt,
+  of-reads.Asked,
+  of-reads.Learnt,
+  judge-step-reads.Asked,
+  judge-step-reads.Learnt,
+  split-reads.Asked,
+  split-reads.Learnt,
+  check-from-below t,
+  check-from.Post,
+  note-step-reads.Asked,
+  note-step-reads.Learnt,
+) (check-from-at t) check-from.Post
+check-from-cast-split t c = ?
 
-  -- where that is known, seen from where the network was split
-  abbrev passed : lts.After-split (claims t) (at t) check-from.Post → lts.Else2 (claims t) (at t) check-from.Post
-  passed c = c .before
+-- src/chain.rt:91:5
+check-from-split-requires : (t : ℕ) → check-from-lts.Need-split-requires (
+  check-ending-reads.Asked,
+  check-ending-reads.Learnt,
+  read-line-reads.Asked,
+  read-line-reads.Learnt,
+  of-reads.Asked,
+  of-reads.Learnt,
+  judge-step-reads.Asked,
+  judge-step-reads.Learnt,
+  split-reads.Asked,
+  split-reads.Learnt,
+  check-from-below t,
+  check-from.Post,
+  note-step-reads.Asked,
+  note-step-reads.Learnt,
+) (check-from-at t) check-from.Post
+check-from-split-requires t c κs = ?
 
-  after-is : (c : lts.After-split (claims t) (at t) check-from.Post) → let j = passed c .before in
-      c .split .result ≡ after (entry j .args .network) (judged j)
-  unfolding after
-  after-is c = c .split .ensures
+-- src/chain.rt:92:50
+check-from-add-check-from : (t : ℕ) → check-from-lts.Need-add-check-from (
+  check-ending-reads.Asked,
+  check-ending-reads.Learnt,
+  read-line-reads.Asked,
+  read-line-reads.Learnt,
+  of-reads.Asked,
+  of-reads.Learnt,
+  judge-step-reads.Asked,
+  judge-step-reads.Learnt,
+  split-reads.Asked,
+  split-reads.Learnt,
+  check-from-below t,
+  check-from.Post,
+  note-step-reads.Asked,
+  note-step-reads.Learnt,
+) (check-from-at t) check-from.Post
+check-from-add-check-from t c = ?
 
-  -- the verdict of what stands behind the step, lifted
-  at-more : (c : lts.After-split (claims t) (at t) check-from.Post) → let j = passed c .before in
-      let g = entry j .args .network in
-      let h = c .split .result in
-      let s = judged j in
-      let next = j .before .before .before .before .fields .given .0 .1 .0 in
-      checkChain (g .remaining - 2) g (rest j)
-      ≡ lifted (s .x) (s .y) (s .z) (checkChain (h .remaining - 2) h (drop next (entry j .args .chain .now)))
-  at-more c =
-      let j = passed c .before in
-      let a = entry j .args in
-      let r = read (j .before .before .before) in
-      chain-at-more (a .network) (a .chain .now) (a .at) (more j) (r .is) (judged j) (named j) _ _ (by-rule (passed c))
-      (after-is c) (r .place)
+-- src/chain.rt:92:9
+check-from-check-from-requires : (t : ℕ) → check-from-lts.Need-check-from-requires (
+  check-ending-reads.Asked,
+  check-ending-reads.Learnt,
+  read-line-reads.Asked,
+  read-line-reads.Learnt,
+  of-reads.Asked,
+  of-reads.Learnt,
+  judge-step-reads.Asked,
+  judge-step-reads.Learnt,
+  split-reads.Asked,
+  split-reads.Learnt,
+  check-from-below t,
+  check-from.Post,
+  note-step-reads.Asked,
+  note-step-reads.Learnt,
+) (check-from-at t) check-from.Post
+check-from-check-from-requires t c κs = ?
 
-  check-ending-requires : lts.Need-check-ending-requires (claims t) (at t) check-from.Post
-  check-ending-requires c κs =
-      let start = c .before .before .before in
-      let run = start .pre .1 .0 in
-      (record { run = run; two = omega (arith, c .before .if1 .taken, run .left) }, start .pre .1 .1)
+-- src/chain.rt:94:9
+check-from-returns-4 : (t : ℕ) → check-from-lts.Need-returns-4 (
+  check-ending-reads.Asked,
+  check-ending-reads.Learnt,
+  read-line-reads.Asked,
+  read-line-reads.Learnt,
+  of-reads.Asked,
+  of-reads.Learnt,
+  judge-step-reads.Asked,
+  judge-step-reads.Learnt,
+  split-reads.Asked,
+  split-reads.Learnt,
+  check-from-below t,
+  check-from.Post,
+  note-step-reads.Asked,
+  note-step-reads.Learnt,
+) (check-from-at t) check-from.Post
+check-from-returns-4 t c = ?
 
-  returns : lts.Need-returns (claims t) (at t) check-from.Post
-  returns c =
-      let b = c .before .before in
-      let a = b .before .before .args in
-      rw (chain-end (a .network) (a .chain .now) (a .at) (b .if1 .taken)) (c .check-ending .ensures)
+-- src/chain.rt:96:38
+check-from-cast-note-step : (t : ℕ) → check-from-lts.Need-cast-note-step (
+  check-ending-reads.Asked,
+  check-ending-reads.Learnt,
+  read-line-reads.Asked,
+  read-line-reads.Learnt,
+  of-reads.Asked,
+  of-reads.Learnt,
+  judge-step-reads.Asked,
+  judge-step-reads.Learnt,
+  split-reads.Asked,
+  split-reads.Learnt,
+  check-from-below t,
+  check-from.Post,
+  note-step-reads.Asked,
+  note-step-reads.Learnt,
+) (check-from-at t) check-from.Post
+check-from-cast-note-step t c = ?
 
-  read-line-requires : lts.Need-read-line-requires (claims t) (at t) check-from.Post
-  read-line-requires c κs = search needs
+-- src/chain.rt:96:5
+check-from-note-step-requires : (t : ℕ) → check-from-lts.Need-note-step-requires (
+  check-ending-reads.Asked,
+  check-ending-reads.Learnt,
+  read-line-reads.Asked,
+  read-line-reads.Learnt,
+  of-reads.Asked,
+  of-reads.Learnt,
+  judge-step-reads.Asked,
+  judge-step-reads.Learnt,
+  split-reads.Asked,
+  split-reads.Learnt,
+  check-from-below t,
+  check-from.Post,
+  note-step-reads.Asked,
+  note-step-reads.Learnt,
+) (check-from-at t) check-from.Post
+check-from-note-step-requires t c κs = ?
 
-  enum-known-fields : lts.Need-enum-known-fields (claims t) (at t) check-from.Post
-  enum-known-fields c = search needs
-
-  enum-told : lts.Need-enum-told (claims t) (at t) check-from.Post
-  enum-told c = search needs
-
-  returns-2 : lts.Need-returns-2 (claims t) (at t) check-from.Post
-  returns-2 c =
-      let r = c .before .before in
-      let a = r .before .before .before .args in
-      let none = none-read STEP (a .at) (a .chain .now) (read-as (c .enum-told .given .1) (r .read-line .ensures)) in
-      refused-leaves (chain-at-broken (a .network) (a .chain .now) (a .at) (r .before .if1 .left) none) (a .marks .now)
-
-  of-requires : lts.Need-of-requires (claims t) (at t) check-from.Post
-  of-requires c κs = read c .fits
-
-  judge-step-requires : lts.Need-judge-step-requires (claims t) (at t) check-from.Post
-  judge-step-requires c κs = search needs
-
-  returns-3 : lts.Need-returns-3 (claims t) (at t) check-from.Post
-  returns-3 c =
-      let j = c .before in
-      let a = entry j .args in
-      refused-leaves
-      (chain-at-refused (a .network) (a .chain .now) (a .at) (more j) (read (j .before .before .before) .is) (judged j) (named j) _
-      (c .if2 .taken) (sym (j .judge-step .ensures)))
-      (a .marks .now)
-
-  cast-split : lts.Need-cast-split (claims t) (at t) check-from.Post
-  cast-split c =
-      let j = c .before in
-      record { fits = omega (arith, v-below (run j) (more j) (judged j) (by-rule c), run j .vertex-room) }
-
-  split-requires : lts.Need-split-requires (claims t) (at t) check-from.Post
-  split-requires c κs = taken c
-
-  check-from-requires : lts.Need-check-from-requires (claims t) (at t) check-from.Post
-  check-from-requires c κs =
-      let s = c .before in
-      let j = passed s .before in (
-        rw (after-is s) (fewer (entry j .args .network) (judged j) (more j) (entry j .pre .0)),
-        (rw (after-is s) (running-after (run j) (more j) (judged j) (by-rule (passed s))), entry j .pre .1 .1),
-      )
-
-  returns-4 : lts.Need-returns-4 (claims t) (at t) check-from.Post
-  returns-4 c =
-      let f = c .before in
-      let s = f .before .before in
-      let j = passed s .before in
-      let lent = entry j .args .marks .now in
-      let later = was-refused _ (f .check-from .ensures .0) (c .if3 .taken) in
-      let left = refused-leaves (at-more s ∙ lifted-refused (judged j) later) lent in
-      (left .0, f .check-from .ensures .1 ∙ sym (refused-leaves later lent .1) ∙ left .1)
-
-  lift-marks-requires : lts.Need-lift-marks-requires (claims t) (at t) check-from.Post
-  lift-marks-requires c κs =
-      let w = taken (passed (c .before .before .before .before)) in
-      (omega (arith, w .x-edge, w .room), omega (arith, w .y-edge, w .room), omega (arith, w .z-edge, w .room))
-
-  returns-5 : lts.Need-returns-5 (claims t) (at t) check-from.Post
-  returns-5 c =
-      let f = c .before .before .before in
-      let s = f .before .before in
-      let j = passed s .before in
-      let lent = entry j .args .marks .now in
-      let h = s .split .result in
-      let later =
-      was-kept _ (chain-numbered (h .remaining - 2) h _) (f .check-from .ensures .0) (c .before .before .if3 .left) lent
-      (f .check-from .ensures .1) in
-      let left = kept-leaves (at-more s ∙ lifted-kept (judged j) later) lent in
-      (left .0, c .lift-marks .ensures ∙ left .1)
+-- src/chain.rt:56:1
+check-from-returns-5 : (t : ℕ) → check-from-lts.Need-returns-5 (
+  check-ending-reads.Asked,
+  check-ending-reads.Learnt,
+  read-line-reads.Asked,
+  read-line-reads.Learnt,
+  of-reads.Asked,
+  of-reads.Learnt,
+  judge-step-reads.Asked,
+  judge-step-reads.Learnt,
+  split-reads.Asked,
+  split-reads.Learnt,
+  check-from-below t,
+  check-from.Post,
+  note-step-reads.Asked,
+  note-step-reads.Learnt,
+) (check-from-at t) check-from.Post
+check-from-returns-5 t c = ?
 
 pub +check-from-spec : {M : Type 1} → statement M
-+check-from-spec =
-    close μ-check-from λ t. lts.spec (claims t) (at t) check-from.Post
-    (check-ending-requires t)
-    (returns t)
-    (read-line-requires t)
-    (enum-known-fields t)
-    (enum-told t)
-    (returns-2 t)
-    (of-requires t)
-    (judge-step-requires t)
-    (returns-3 t)
-    (cast-split t)
-    (split-requires t)
-    (check-from-requires t)
-    (returns-4 t)
-    (lift-marks-requires t)
-    (returns-5 t)
++check-from-spec = close μ-check-from λ t. check-from-lts.spec (
+  check-ending-reads.Asked,
+  check-ending-reads.Learnt,
+  read-line-reads.Asked,
+  read-line-reads.Learnt,
+  of-reads.Asked,
+  of-reads.Learnt,
+  judge-step-reads.Asked,
+  judge-step-reads.Learnt,
+  split-reads.Asked,
+  split-reads.Learnt,
+  check-from-below t,
+  check-from.Post,
+  note-step-reads.Asked,
+  note-step-reads.Learnt,
+)
+    (check-from-at t)
+    check-from.Post
+    (check-from-check-ending-requires t)
+    (check-from-returns t)
+    (check-from-read-line-requires t)
+    (check-from-enum-known-fields t)
+    (check-from-enum-told t)
+    (check-from-returns-2 t)
+    (check-from-of-requires t)
+    (check-from-judge-step-requires t)
+    (check-from-returns-3 t)
+    (check-from-cast-split t)
+    (check-from-split-requires t)
+    (check-from-add-check-from t)
+    (check-from-check-from-requires t)
+    (check-from-returns-4 t)
+    (check-from-cast-note-step t)
+    (check-from-note-step-requires t)
+    (check-from-returns-5 t)
