@@ -161,7 +161,7 @@ pub passing-keeping : {g : Network} → Running g → (t : List ℕ) (K : List B
     → checkChain (g .remaining - 2) g t ≡ answer K → Keeping g K
 passing-keeping {g} run t K e =
     let m = bytes-meant (g .remaining - 2) g t K (omega (arith, run .left)) e in
-    running-keeping run K (passes-good (m .steps) (run .sound) (m .dropped) K (m .passes) .sized)
+    running-keeping run K (passes-good _ (run .sound) _ K (m .passes) .sized)
 
 -- ── the check of a chain by its steps ──
 module _ (network chain : List ℕ) where

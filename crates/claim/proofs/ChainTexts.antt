@@ -27,7 +27,7 @@ use Rattle.graph.proofs.Rules.{ruled-step}
 use Rattle.base.proofs.Answers.{unless-answered, cond-answered}
 use Rattle.graph.proofs.Checking.{lift-keeps, check-began, passes-ruled}
 use Rattle.rules.specs.Running.{Running}
-use Rattle.claim.specs.Verdicts.{stepIn, droppedIn, leftOver, checkEnding, checkChain}
+use Rattle.claim.specs.Verdicts.{stepIn, droppedIn, leftOver, checkEnding, checkChain, stepsIn, dropIn}
 use Rattle.claim.specs.Plans.{inFrame}
 use Rattle.rules.proofs.Steps.{running-after, v-below}
 use Rattle.claim.proofs.Chains.{ending-kept, chain-at-more}
@@ -48,28 +48,25 @@ ending-line t h l =
     ∙ ap (lineOf DROPPED) (sym (dropped-back (fieldsOf DROPPED t) (line-fits DROPPED t h)))
 
 -- ── bytes that pass are a chain text whose meaning passes ──
-pub record Meant (g : Network) (t : List ℕ) (K : List Bool) : Type 0 where
-  pub steps : List Step
-  pub dropped : ℕ
-  pub text-is : t ≡ chainText (map inFrame steps) dropped
-  pub passes : check g steps dropped ≡ answer K
+pub record Meant (n : ℕ) (g : Network) (t : List ℕ) (K : List Bool) : Type 0 where
+  pub text-is : t ≡ chainText (map inFrame (stepsIn n t)) (dropIn n t)
+  pub passes : check g (stepsIn n t) (dropIn n t) ≡ answer K
 
-ending-meant : (g : Network) (t : List ℕ) (K : List Bool) → g .remaining ≡ 2 → checkEnding g t ≡ answer K → Meant g t K
-unfolding checkEnding chainText check unless
+ending-meant : (g : Network) (t : List ℕ) (K : List Bool) → g .remaining ≡ 2 → checkEnding g t ≡ answer K
+    → Meant 0 g t K
+unfolding checkEnding chainText check unless stepsIn dropIn
 ending-meant g t K e h =
     let a = cond-answered (isLine DROPPED t) _ 1 K h in
     let b = unless-answered (endRefusal g (droppedIn t)) _ K (a .1) in
     let c = cond-answered (leb (length t) (lineLength DROPPED)) (answer (endKept g (droppedIn t))) leftOver K (b .1) in
     record {
-      steps = [];
-      dropped = droppedIn t;
       text-is = ending-line t (a .0) (leb-true (length t) (lineLength DROPPED) (c .0));
       passes = rw (eq-eqb (g .remaining) 2 e, b .0) (c .1);
     }
 
 pub bytes-meant : (n : ℕ) (g : Network) (t : List ℕ) (K : List Bool) → g .remaining ≡ 2 + n
     → checkChain n g t ≡ answer K
-    → Meant g t K
+    → Meant n g t K
 unfolding checkChain
 bytes-meant zero g t K e h = ending-meant g t K e h
 bytes-meant (suc n) g t K e h =
@@ -80,28 +77,32 @@ bytes-meant (suc n) g t K e h =
     (lifted (s .x) (s .y) (s .z) (checkChain n (after g s) (drop (lineLength STEP) t))) K (a .1) in
     let c = lift-keeps s (checkChain n (after g s) (drop (lineLength STEP) t)) K (b .1) in
     let m = bytes-meant n (after g s) (drop (lineLength STEP) t) (c .0) (fewer e) (c .1) in
-    record {
-      steps = s ∷ m .steps;
-      dropped = m .dropped;
-      text-is = step-line t (a .0) ∙ text m;
-      passes = more m (b .0) (c .2);
-    }
+    record { text-is = step-line t (a .0) ∙ text m; passes = more m (b .0) (c .2) }
   where
     fewer : g .remaining ≡ 2 + suc n → after g (stepIn t) .remaining ≡ 2 + n
     fewer e = unfold after split in omega arith
 
-    text : {L : List Bool} (m : Meant (after g (stepIn t)) (drop (lineLength STEP) t) L)
+    text : {L : List Bool} → Meant n (after g (stepIn t)) (drop (lineLength STEP) t) L
         → lineOf STEP (ofStep (inFrame (stepIn t))) ++ drop (lineLength STEP) t
-        ≡ chainText (map inFrame (stepIn t ∷ m .steps)) (m .dropped)
-    text m = unfold chainText in ap (λ r. lineOf STEP (ofStep (inFrame (stepIn t))) ++ r) (m .text-is)
+        ≡ chainText (map inFrame (stepsIn (suc n) t)) (dropIn (suc n) t)
+    text m =
+        unfold chainText stepsIn dropIn in ap (λ r. lineOf STEP (ofStep (inFrame (stepIn t))) ++ r) (m .text-is)
 
-    more : {L : List Bool} (m : Meant (after g (stepIn t)) (drop (lineLength STEP) t) L) → stepRefusal g (stepIn t) ≡ 0
+    more : {L : List Bool} → Meant n (after g (stepIn t)) (drop (lineLength STEP) t) L → stepRefusal g (stepIn t) ≡ 0
         → lift (stepIn t .x) (stepIn t .y) (stepIn t .z) L ≡ K
-        → check g (stepIn t ∷ m .steps) (m .dropped) ≡ answer K
+        → check g (stepsIn (suc n) t) (dropIn (suc n) t) ≡ answer K
     more m p q =
-        unfold check unless lifted in rw (lt-ltb 2 (g .remaining) (omega arith), p, m .passes) (ap answer q)
+        unfold check unless lifted stepsIn dropIn in
+        rw (lt-ltb 2 (g .remaining) (omega arith), p, m .passes) (ap answer q)
 
 -- ── and the text of a chain that passes passes ──
+
+-- the edge that the line of an ending drops
+ending-named : (d : ℕ) → d < 2 ^ 16 → droppedIn (lineOf DROPPED (ofDropped (record { edge = d }))) ≡ d
+ending-named d l =
+    let f = ofDropped (record { edge = d }) in
+    ap (λ f. droppedOf f .edge)
+    (ap (fieldsOf DROPPED) (sym (append-nil (lineOf DROPPED f))) ∙ fields-found DROPPED f [] (dropped-fits d l))
 
 ending-passes : (g : Network) (d : ℕ) (K : List Bool) → EndingByRule g d → d < 2 ^ 16 → check g [] d ≡ answer K
     → checkEnding g (chainText [] d) ≡ answer K
@@ -109,23 +110,13 @@ unfolding chainText check
 ending-passes g d K r l h =
     let f = ofDropped (record { edge = d }) in
     let text = lineOf DROPPED f in
-    let e = sym (append-nil text) in
-    let is : isLine DROPPED text ≡ true = ap (isLine DROPPED) e ∙ line-is DROPPED f [] in
-    let found : fieldsOf DROPPED text ≡ f = ap (fieldsOf DROPPED) e ∙ fields-found DROPPED f [] (dropped-fits d l) in
-    let named : droppedIn text ≡ d = ap (λ f. droppedOf f .edge) found in
+    let is : isLine DROPPED text ≡ true = ap (isLine DROPPED) (sym (append-nil text)) ∙ line-is DROPPED f [] in
+    let named = ending-named d l in
     let k = cond-answered (eqb (g .remaining) 2) _ 1 K h in
     let u = unless-answered (endRefusal g d) (answer (endKept g d)) K (k .1) in
     ending-kept g text is (ap (endRefusal g) named ∙ u .0) (omega (arith, length-line DROPPED f))
     ∙ ap (λ i. answer (endKept g i)) named
     ∙ u .1
-
--- a step's line in front of the rest of a chain
-module _ (t : Step) (spelt : 2 * mag (t .cost) < 16 ^ stepCostDigits) (fits : Fits STEP (ofStep (inFrame t)))
-    (rest : List ℕ) where
-  line-names : t ≡ stepIn (lineOf STEP (ofStep (inFrame t)) ++ rest)
-  line-names =
-      ap (λ s. record { v = s .v; x = s .x; y = s .y; z = s .z; cost = s .cost })
-      (sym (step-found (inFrame t) spelt) ∙ ap stepOf (sym (fields-found STEP (ofStep (inFrame t)) rest fits)))
 
 -- z's new cost is one of 64 bits
 cost-spelt : {g : Network} → Running g → 2 < g .remaining → (t : Step) → StepByRule g t
@@ -135,6 +126,19 @@ cost-spelt {g} run more t r =
     let small = difference-small g (run .light) (t .z) (t .x) (r .z-partner .number) (r .x-partner .number) in
     rw (r .z-cost) (omega (arith, small .sfits))
 
+-- the step that the line of a step by rule names, in front of the rest of a chain
+step-named : {g : Network} → Running g → (t : Step) (rest : List ℕ) → 2 < g .remaining → StepByRule g t
+    → t ≡ stepIn (lineOf STEP (ofStep (inFrame t)) ++ rest)
+step-named {g} run t rest more r =
+    let passed = ruled-step (run .sound) (run .left) t r in
+    let below : (e : ℕ) → Partner g (t .v) e → e < 2 ^ 16 = λ e p. omega (arith, p .number, run .edge-room) in
+    let spelt = cost-spelt run more t r in
+    let fits =
+    step-fits (inFrame t) (omega (arith, v-below run more t passed, run .vertex-room)) (below _ (r .x-partner))
+    (below _ (r .y-partner)) (below _ (r .z-partner)) spelt in
+    ap (λ s. record { v = s .v; x = s .x; y = s .y; z = s .z; cost = s .cost })
+    (sym (step-found (inFrame t) spelt) ∙ ap stepOf (sym (fields-found STEP (ofStep (inFrame t)) rest fits)))
+
 step-passes : {g : Network} → Running g → (t : Step) (rest : List ℕ) (L : List Bool) → 2 < g .remaining → StepByRule g t
     → checkChain (after g t .remaining - 2) (after g t) rest ≡ answer L
     → checkChain (g .remaining - 2) g (lineOf STEP (ofStep (inFrame t)) ++ rest)
@@ -142,14 +146,9 @@ step-passes : {g : Network} → Running g → (t : Step) (rest : List ℕ) (L : 
 unfolding lifted
 step-passes {g} run t rest L more r h =
     let passed = ruled-step (run .sound) (run .left) t r in
-    let below : (e : ℕ) → Partner g (t .v) e → e < 2 ^ 16 = λ e p. omega (arith, p .number, run .edge-room) in
-    let spelt = cost-spelt run more t r in
-    let fits =
-    step-fits (inFrame t) (omega (arith, v-below run more t passed, run .vertex-room)) (below _ (r .x-partner))
-    (below _ (r .y-partner)) (below _ (r .z-partner)) spelt in
     let text = lineOf STEP (ofStep (inFrame t)) ++ rest in
-    chain-at-more g text 0 more (line-is STEP (ofStep (inFrame t)) rest) t (line-names t spelt fits rest) (lineLength STEP)
-    (after g t) passed refl (omega arith)
+    chain-at-more g text 0 more (line-is STEP (ofStep (inFrame t)) rest) t (step-named run t rest more r)
+    (lineLength STEP) (after g t) passed refl (omega arith)
     ∙ ap (λ l. lifted (t .x) (t .y) (t .z) (checkChain (after g t .remaining - 2) (after g t) l))
     (line-rest STEP (ofStep (inFrame t)) rest)
     ∙ ap (lifted (t .x) (t .y) (t .z)) h
@@ -173,3 +172,34 @@ meaning-passes (t ∷ ts) {g} d run K h =
         let w = check-began g t ts d K h in
         step-passes run t (chainText (map inFrame ts) d) (w .later) more r
         (ih (running-after run more t (ruled-step (run .sound) (run .left) t r)) (w .later) (w .later-keeps)) ∙ ap answer (w .marks-are)
+
+-- ── the steps and the ending of a chain by the rules are found again in its text ──
+pub record Found (g : Network) (ts : List Step) (d : ℕ) (text : List ℕ) : Type 0 where
+  pub steps : stepsIn (g .remaining - 2) text ≡ ts
+  pub dropped : dropIn (g .remaining - 2) text ≡ d
+
+pub steps-found : (ts : List Step) {g : Network} (d : ℕ) → Running g → ByRules g ts d
+    → Found g ts d (chainText (map inFrame ts) d)
+unfolding chainText stepsIn dropIn
+steps-found [] {g} d run (ending two r) =
+    let e : g .remaining - 2 ≡ 0 = omega arith in
+    record {
+      steps = rw e refl;
+      dropped = rw e (ending-named d (omega (arith, r .one .number, run .edge-room)));
+    }
+steps-found (t ∷ ts) {g} d run (step more r rest) =
+    next (steps-found ts d (running-after run more t (ruled-step (run .sound) (run .left) t r)) rest)
+  where
+    fewer : g .remaining - 2 ≡ suc (after g t .remaining - 2)
+    fewer = unfold after split in omega (arith, more)
+
+    behind : drop (lineLength STEP) (lineOf STEP (ofStep (inFrame t)) ++ chainText (map inFrame ts) d)
+        ≡ chainText (map inFrame ts) d
+    behind = line-rest STEP (ofStep (inFrame t)) (chainText (map inFrame ts) d)
+
+    next : Found (after g t) ts d (chainText (map inFrame ts) d)
+        → Found g (t ∷ ts) d (lineOf STEP (ofStep (inFrame t)) ++ chainText (map inFrame ts) d)
+    next f = record {
+      steps = rw (fewer, behind, f .steps, ← step-named run t (chainText (map inFrame ts) d) more r);
+      dropped = rw fewer (ap (dropIn (after g t .remaining - 2)) behind ∙ f .dropped);
+    }

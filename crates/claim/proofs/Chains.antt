@@ -31,6 +31,12 @@ module _ {w : Answer (List Bool)} where
   unfolding refusalOf numberGiven
   kept-leaves e = (rw e, λ due old. rw e)
 
+-- a column to which nothing else is due stays
+pub same-column : (w : Answer (List Bool)) (column : List ℕ) → column ≡ columnAfter w column column
+unfolding numberGiven
+same-column (refused k) column = refl
+same-column (answer K) column = refl
+
 -- and the other way round
 pub was-refused : (w : Answer (List Bool)) {k : ℕ} → k ≡ refusalOf w → 0 < k → w ≡ refused k
 unfolding refusalOf
@@ -151,28 +157,28 @@ module _ (k : ℕ) (g : Network) (text : List ℕ) (at : ℕ) where
 
   -- a step's, where t is the step that the frame names, h the network after it, and next the place behind its line
   module _ (more : 2 < g .remaining) (t : Step) (named : t ≡ stepIn (drop at text)) (next : ℕ) (h : Network)
-    (after-is : h ≡ after g t) (place : next ≡ at + lineLength STEP) where
-      one-step : suc (h .remaining - 2) ≡ g .remaining - 2
-      one-step = unfold after split in omega (arith, ap (λ h. h .remaining) after-is)
+      (after-is : h ≡ after g t) (place : next ≡ at + lineLength STEP) where
+    one-step : suc (h .remaining - 2) ≡ g .remaining - 2
+    one-step = unfold after split in omega (arith, ap (λ h. h .remaining) after-is)
 
-      behind : drop (lineLength STEP) (drop at text) ≡ drop next text
-      behind = drop-drop (lineLength STEP) at text ∙ ap (λ n. drop n text) (sym place)
+    behind : drop (lineLength STEP) (drop at text) ≡ drop next text
+    behind = drop-drop (lineLength STEP) at text ∙ ap (λ n. drop n text) (sym place)
 
-      steps-are : stepsIn (g .remaining - 2) (drop at text) ≡ t ∷ stepsIn (h .remaining - 2) (drop next text)
-      unfolding stepsIn
-      steps-are = rw (← one-step, behind, named)
+    steps-are : stepsIn (g .remaining - 2) (drop at text) ≡ t ∷ stepsIn (h .remaining - 2) (drop next text)
+    unfolding stepsIn
+    steps-are = rw (← one-step, behind, named)
 
-      drop-is : dropIn (g .remaining - 2) (drop at text) ≡ dropIn (h .remaining - 2) (drop next text)
-      unfolding dropIn
-      drop-is =
-          ap (λ n. dropIn n (drop at text)) (sym one-step) ∙ ap (dropIn (h .remaining - 2)) behind
+    drop-is : dropIn (g .remaining - 2) (drop at text) ≡ dropIn (h .remaining - 2) (drop next text)
+    unfolding dropIn
+    drop-is =
+        ap (λ n. dropIn n (drop at text)) (sym one-step) ∙ ap (dropIn (h .remaining - 2)) behind
 
-      pub rules-at-more : t .z < edgeLimit
-          → rulesBack (t .x) (t .y) (t .z) (rulesIn (suc k) h (drop next text)) ≡ rulesIn k g (drop at text)
-      unfolding rulesIn
-      rules-at-more l = rw (steps-are, drop-is, after-is) (rules-back k g t _ _ l)
+    pub rules-at-more : t .z < edgeLimit
+        → rulesBack (t .x) (t .y) (t .z) (rulesIn (suc k) h (drop next text)) ≡ rulesIn k g (drop at text)
+    unfolding rulesIn
+    rules-at-more l = rw (steps-are, drop-is, after-is) (rules-back k g t _ _ l)
 
-      pub numbers-at-more : stepsBack (t .x) (t .y) k (numbersIn (suc k) h (drop next text))
-          ≡ numbersIn k g (drop at text)
-      unfolding numbersIn
-      numbers-at-more = rw (steps-are, drop-is, after-is) (steps-back k g t _ _)
+    pub numbers-at-more : stepsBack (t .x) (t .y) k (numbersIn (suc k) h (drop next text))
+        ≡ numbersIn k g (drop at text)
+    unfolding numbersIn
+    numbers-at-more = rw (steps-are, drop-is, after-is) (steps-back k g t _ _)

@@ -37,9 +37,12 @@ use Rattle.graph.proofs.EveryCut.{every-cut-complete}
 use Rattle.graph.proofs.Checking.{passes-ruled}
 use Rattle.graph.proofs.Backs.{back-good, back-below, check-back, back-check}
 use Rattle.graph.proofs.Condition.{plan-checked, working-costs}
+use Rattle.departures.specs.Departures.{FIRST-STEP}
+use Rattle.departures.specs.Columns.{keptBy}
+use Rattle.departures.proofs.Explaining.{kept-by-rules}
 use Rattle.costs.proofs.Totals.{kept-weight, reserved-weight}
 use Rattle.rules.specs.Running.{Running}
-use Rattle.claim.specs.Verdicts.{checkChain}
+use Rattle.claim.specs.Verdicts.{checkChain, stepsIn, dropIn, rulesIn}
 use Rattle.claim.specs.Plans.{planChain}
 use Rattle.claim.specs.Services.{acceptNetwork, keptTextOf, keptIn, checkChainText, chainReply, keptAfter}
 use Rattle.claim.specs.Services.{Texts, textsOf, planOf, planText, planGiven}
@@ -158,16 +161,25 @@ module _ {g : Network} (run : Running g) where
       → Ruled g chain K
   keeps-ruled {chain} {K} e =
       let m = bytes-meant (g .remaining - 2) g chain K (omega (arith, run .left)) e in
-      let r = passes-ruled (m .steps) (run .sound) (m .dropped) K (m .passes) in
+      let r = passes-ruled _ (run .sound) _ K (m .passes) in
       record {
-        steps = m .steps;
-        dropped = m .dropped;
+        steps = stepsIn (g .remaining - 2) chain;
+        dropped = dropIn (g .remaining - 2) chain;
         text-is = m .text-is;
         by-rules = r;
         back = check-back (run .sound) r (m .passes);
       }
 
-  -- and the other way round
+  -- the marks that the rules of how each edge leaves give are those that are kept
+  pub marks-left : Fresh g → (chain : List ℕ) {K : List Bool} → checkChain (g .remaining - 2) g chain ≡ answer K
+      → keptBy (g .edges) (rulesIn FIRST-STEP g chain) ≡ K
+  unfolding rulesIn
+  marks-left fresh chain {K} e =
+      let m = bytes-meant (g .remaining - 2) g chain K (omega (arith, run .left)) e in
+      let r = passes-ruled _ (run .sound) _ K (m .passes) in
+      kept-by-rules (run .sound) fresh r (check-back (run .sound) r (m .passes)) (run .edge-room) (run .long)
+
+  -- what keeps the rules is kept
   pub ruled-keeps : {chain : List ℕ} {K : List Bool} → Ruled g chain K
       → checkChain (g .remaining - 2) g chain ≡ answer K
   ruled-keeps {chain} {K} r =

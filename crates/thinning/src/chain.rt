@@ -22,12 +22,7 @@ ghost use Rattle.base.specs.Limits.{edgeLimit};
 
 // The ending that stands at a place of a chain, with nothing behind it: a refusal, or 0 and the rules with the ending
 // noted.
-fn check_ending(
-    network: Network,
-    chain: &[u8],
-    at: usize,
-    rules: &mut [u8; EDGE_LIMIT],
-) -> u8
+fn check_ending(network: Network, chain: &[u8], at: usize, rules: &mut [u8; EDGE_LIMIT]) -> u8
     requires { ⌜ Last network ⌝ }
     ensures refusal { λ r. ⌜ r ≡ refusalOf (checkEnding network (drop at (now (chain .entry)))) ⌝ }
     ensures rules { λ r. ⌜ now (rules .exit) ≡
