@@ -69,12 +69,12 @@ extern "C" {
 
 /* What puts an edge in or out: the rules in frames of thinning_reasons. Edges are kept by rules 1, 2 and 4 alone. */
 enum thinning_rule {
-    THINNING_RESERVED = 0,
-    THINNING_KEPT_AS_Y = 1,
-    THINNING_KEPT_AS_X = 2,
-    THINNING_OUT_AS_X = 3,
-    THINNING_KEPT_AT_ENDING = 4,
-    THINNING_DROPPED_AT_ENDING = 5
+    THINNING_RULE_RESERVED = 0,
+    THINNING_RULE_KEPT_AS_Y = 1,
+    THINNING_RULE_KEPT_AS_X = 2,
+    THINNING_RULE_OUT_AS_X = 3,
+    THINNING_RULE_KEPT_AT_ENDING = 4,
+    THINNING_RULE_DROPPED_AT_ENDING = 5
 };
 
 /* Checks a network text. Refusals: 1 to 5, whichever comes first in the text, then 6, then 7. */
@@ -122,7 +122,7 @@ uint32_t thinning_check_chain(const uint8_t *network, size_t network_len,
  *    5  it was one of the last three, and is dropped
  * The step is 0 for rules 0, 4 and 5. The edges of rules 1, 2 and 4 are those of the kept text that the chain's check
  * writes.
- * Refusals: 1 to 12 and 17, as in the chain's check, then 13.
+ * Refusals: 1 to 7 of the network, then 1, 8 to 12 and 17 of the chain, all as in the chain's check; then 13.
  * Room for every chain: reasons THINNING_REASONS_TEXT bytes; for n vertices 26 * n. */
 uint32_t thinning_reasons(const uint8_t *network, size_t network_len,
                           const uint8_t *chain, size_t chain_len,

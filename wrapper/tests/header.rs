@@ -38,7 +38,7 @@ fn rules() -> Vec<(&'static str, u8)> {
     let (listed, _) = listed.split_once("};").expect("the list ends");
     let rule = |line: &'static str| {
         let (name, number) = line.trim().trim_end_matches(',').split_once(" = ")?;
-        let name = name.strip_prefix("THINNING_")?;
+        let name = name.strip_prefix("THINNING_RULE_")?;
         Some((name, number.parse().ok()?))
     };
     let rules = listed.lines().map(|line| rule(line).expect("a rule"));
