@@ -30,7 +30,7 @@ const METHOD: Method = Method::ContractedFlow;
 const FEW_VERTICES: usize = 8;
 
 /// What the check of a chain over an accepted network refuses.
-pub const CHAIN_REFUSALS: [Refusal; 7] = [
+const CHAIN_REFUSALS: [Refusal; 7] = [
     BROKEN_TEXT,
     NOT_RESERVED_END,
     NOT_PARTNERS,
