@@ -27,9 +27,9 @@
 /* How many edges are tried as the reserved one. With two, what a plan leaves on the stack below the next is seen. */
 #define CANDIDATES 2
 
-/* What the services are given: a network text, the planner's chain, candidates for the reserved edge with room for
- * their costs, the list of all edges, room for its page, and a table of the network with room for the end of a
- * string. */
+/* What the services are given: a network text, the planner's chain with room for its reasons, candidates for the
+ * reserved edge with room for their costs, the list of all edges, room for its page, and a table of the network with
+ * room for the end of a string. */
 struct texts {
     uint8_t network[THINNING_NETWORK_TEXT];
     size_t network_length;
@@ -37,6 +37,8 @@ struct texts {
     size_t chain_length;
     uint8_t kept[THINNING_KEPT_TEXT];
     size_t kept_length;
+    uint8_t reasons[THINNING_REASONS_TEXT];
+    size_t reasons_length;
     uint16_t candidates[CANDIDATES];
     uint8_t costs[CANDIDATES * THINNING_COSTS_TEXT];
     size_t costs_length;
@@ -85,6 +87,12 @@ static uint32_t check_chain(struct texts *t)
                                 &t->kept_length);
 }
 
+static uint32_t reasons(struct texts *t)
+{
+    return thinning_reasons(t->network, t->network_length, t->chain, t->chain_length, t->reasons, sizeof t->reasons,
+                            &t->reasons_length);
+}
+
 static uint32_t audit(struct texts *t)
 {
     bool connected;
@@ -104,12 +112,13 @@ static uint32_t plan_table(struct texts *t)
                                &t->chain_length, &t->kept_length);
 }
 
-/* In this order: the chain that is checked is the planner's, and the plan of the table takes its place. */
+/* In this order: the chain that is checked and has reasons is the planner's, and the plan of the table takes its
+ * place. */
 static const struct {
     const char *name;
     uint32_t (*call)(struct texts *);
 } services[] = {{"check", check_network}, {"plan", plan}, {"candidates", plan_candidates}, {"chain check", check_chain},
-                {"audit", audit}, {"page", print_page}, {"table plan", plan_table}};
+                {"reasons", reasons}, {"audit", audit}, {"page", print_page}, {"table plan", plan_table}};
 #define SERVICES (sizeof services / sizeof *services)
 
 /* A service on its way through a thread: where the thread's own frame is, and what the service answers. */

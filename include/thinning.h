@@ -10,9 +10,9 @@
  * as are said, an out-number's to one; what a function writes overlaps nothing else that it is given; during the call
  * nobody else writes what it is given, or reads what it writes.
  *
- * thinning_plan, thinning_plan_candidates, thinning_plan_table and thinning_check_chain go as deep as there are
- * vertices: at 256 vertices the three planners take 1.45 MB of stack and the chain check 1.46 MB, measured by the
- * command ./stack.
+ * thinning_plan, thinning_plan_candidates, thinning_plan_table, thinning_check_chain and thinning_reasons go as deep as
+ * there are vertices: at 256 vertices the three planners take 1.45 MB of stack and the chain check 1.46 MB, measured by
+ * the command ./stack.
  *
  * The refusals:
  *    1  the form: a broken line, a wrong kind or length, a missing frame, bytes left over; columns of a wrong length
@@ -59,12 +59,23 @@ extern "C" {
 #define THINNING_NETWORK_TEXT 15883
 #define THINNING_CHAIN_TEXT 8897
 #define THINNING_KEPT_TEXT 3612
+#define THINNING_REASONS_TEXT 6656
 #define THINNING_LIST_TEXT 3584
 #define THINNING_PAGE_TEXT 18981
 #define THINNING_TABLE_TEXT 14863
 
 /* The bytes of each candidate's frame. */
 #define THINNING_COSTS_TEXT 35
+
+/* What puts an edge in or out: the rules in frames of thinning_reasons. Edges are kept by rules 1, 2 and 4 alone. */
+enum thinning_rule {
+    THINNING_RULE_RESERVED = 0,
+    THINNING_RULE_KEPT_AS_Y = 1,
+    THINNING_RULE_KEPT_AS_X = 2,
+    THINNING_RULE_OUT_AS_X = 3,
+    THINNING_RULE_KEPT_AT_ENDING = 4,
+    THINNING_RULE_DROPPED_AT_ENDING = 5
+};
 
 /* Checks a network text. Refusals: 1 to 5, whichever comes first in the text, then 6, then 7. */
 uint32_t thinning_check_network(const uint8_t *network, size_t network_len);
@@ -99,6 +110,24 @@ uint32_t thinning_check_chain(const uint8_t *network, size_t network_len,
                               const uint8_t *chain, size_t chain_len,
                               uint8_t *kept, size_t kept_len,
                               size_t *kept_written);
+
+/* Says what put each edge in or out, for any bytes proposed as a chain over a network text: writes a frame 0a for each
+ * edge, in the order of their numbers, and the length of them all in bytes. A frame has the edge, its rule and a step,
+ * of which the first is 1. A rule is how the edge left the network, whether or not it was a z before:
+ *    0  it is the reserved edge
+ *    1  it was y of the step, and is kept
+ *    2  it was x of the step, and is kept, since z is not
+ *    3  it was x of the step, and is out, since z is kept
+ *    4  it was one of the last three, and is kept
+ *    5  it was one of the last three, and is dropped
+ * The step is 0 for rules 0, 4 and 5. The edges of rules 1, 2 and 4 are those of the kept text that the chain's check
+ * writes.
+ * Refusals: 1 to 7 of the network, then 1, 8 to 12 and 17 of the chain, all as in the chain's check; then 13.
+ * Room for every chain: reasons THINNING_REASONS_TEXT bytes; for n vertices 26 * n. */
+uint32_t thinning_reasons(const uint8_t *network, size_t network_len,
+                          const uint8_t *chain, size_t chain_len,
+                          uint8_t *reasons, size_t reasons_len,
+                          size_t *written);
 
 /* Audits a list over a network text, which must read but need not be accepted: whether the listed edges join all
  * vertices, how many vertices they join to vertex 0 (itself included), and how many of them are critical. A listed edge

@@ -1,11 +1,11 @@
 //! Prints how long the linked services and the second program take for the same inputs.
 //!
 //! `cargo run --release --offline` prints three tables, three lines about reading and two about printing. The first
-//! table has the services that look at cuts: the core, which takes one flow for a splitting and in a network one from
-//! each vertex to all earlier ones at once, and the second program by flows from one vertex to every other one
-//! (`EveryFlow`), or so in a network and by one flow for a splitting (`ContractedFlow`). The second table has the audit
-//! of all edges, of half of them, which leave islands, and of none: both programs read the network and the list, and
-//! then make one depth-first search with low points, which is linear in the vertices and the listed edges.
+//! table has the services that look at cuts, reasons too: the core, which takes one flow for a splitting and in a
+//! network one from each vertex to all earlier ones at once, and the second program by flows from one vertex to every
+//! other one (`EveryFlow`), or so in a network and by one flow for a splitting (`ContractedFlow`). The second table has
+//! the audit of all edges, of half of them, which leave islands, and of none: both programs read the network and the
+//! list, and then make one depth-first search with low points, which is linear in the vertices and the listed edges.
 //!
 //! The third table has forty edges of a network, each tried as the reserved one: the core's one call for all of them,
 //! its forty single plans, forty checks of the network, and the plans less the checks. A check reads the network and
@@ -32,7 +32,7 @@ use second::refusal::{BROKEN_TEXT, NOT_FOUR_REGULAR};
 use second::texts::MOST_VERTICES;
 use second::{
     audit, check_chain_by, check_network, check_network_by, plan_by, print_page, read_network,
-    read_table, write_list, Method, Network,
+    read_table, reasons_by, write_list, Method, Network,
 };
 use thinning::{raw, Refusal};
 
@@ -158,6 +158,21 @@ fn cut_services(given: &Given) {
         methods.map(|method| work(move || check_chain_by(text, chain, method)));
     let core = work(|| thinning::check_chain(text, chain));
     given.line("chain check", RUNS, [core, every, contracted]);
+    reasons(given, chain);
+}
+
+/// A line for the reasons of the planner's chain, which each program checks first. The core is lent the buffer, and the
+/// second program makes its own.
+fn reasons(given: &Given, chain: &[u8]) {
+    let text = &given.text;
+    let methods = [Method::EveryFlow, Method::ContractedFlow];
+    let [every, contracted] = methods.map(|method| work(move || reasons_by(text, chain, method)));
+    let mut reasons = vec![0; lengths::reasons_text(given.vertices)];
+    let mut written = 0;
+    let core = work(|| raw::reasons(text, chain, &mut reasons, &mut written));
+    given.line("reasons", RUNS, [core, every, contracted]);
+    assert_eq!(written, reasons.len());
+    assert_eq!(reasons_by(text, chain, Method::ContractedFlow), Ok(reasons));
 }
 
 /// A line for the audit of all edges, one for that of half of them, which leave islands, and one for that of none,

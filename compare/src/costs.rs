@@ -5,7 +5,7 @@ use second::lengths::{candidates_text, edge_column};
 use second::Refusal;
 
 use crate::difference::{Compared, Difference, Given, Text};
-use crate::{candidates, chains, lists, networks, pages, tables};
+use crate::{candidates, chains, lists, networks, pages, reasons, tables};
 
 /// Networks of more vertices take long, since many are planned.
 const MOST_VERTICES: usize = 20;
@@ -31,6 +31,7 @@ pub fn edges(rng: &mut Rng) -> Compared {
         networks::plan(rng, text, true)?;
         networks::read(rng, text, true)?;
         chains::check(rng, text, &chain, true)?;
+        reasons::write_exact(rng, text, &chain, vertices)?;
         lists::audit(rng, text, &list)?;
         pages::print(rng, text, &list)?;
         candidate(rng, text, &all)?;

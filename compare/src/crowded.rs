@@ -6,7 +6,7 @@ use second::refusal::NOT_FOUR_REGULAR;
 
 use crate::buffers::due_length;
 use crate::difference::{Compared, Difference, Given, Text};
-use crate::{candidates, chains, lists, networks, pages};
+use crate::{candidates, chains, lists, networks, pages, reasons};
 
 /// Candidates that every network has: if the fault is missed, they don't give a refusal instead.
 const CANDIDATES: [u16; 2] = [1, 0];
@@ -74,6 +74,7 @@ pub fn services(rng: &mut Rng, case: &Case) -> Compared {
     }
     let length = due_length::<u8>(rng, None);
     chains::check_into(rng, text, chain, &Err(refusal), length)?;
+    reasons::write_into(rng, text, chain, &Err(refusal), length)?;
     lists::audit(rng, text, list)?;
     pages::print(rng, text, list)?;
     candidates::plan(rng, text, &CANDIDATES)
@@ -94,6 +95,7 @@ fn meets(case: &Case) -> Compared {
         ("network check", due, second::check_network(text).err()),
         ("plan", due, second::plan(text).err()),
         ("chain check", due, second::check_chain(text, chain).err()),
+        ("reasons", due, second::reasons(text, chain).err()),
         ("audit", read, second::audit(text, list).err()),
         ("page", read, second::print_page(text, list).err()),
         (

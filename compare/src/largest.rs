@@ -4,7 +4,8 @@
 //! run on a thread with that stack, and the plan program runs as a process with it, each held to
 //! the second program. A call that goes deeper ends the program. Crowded networks, among them ones
 //! whose edges all run between two vertices, come with every fault of their texts and with none.
-//! Each network is planned for a few candidates, and its chain is checked with faults of a step.
+//! Each network is planned for a few candidates, and its chain is checked with faults of a step. The
+//! reasons are those of the planner's chain and of one by rule, and the same refusals come for them.
 
 use std::fmt::Debug;
 use std::thread::{self, Scope, ScopedJoinHandle};
@@ -13,11 +14,11 @@ use second::generate::{
     self, aimed_chain, Aim, CostStyle, Crowd, Family, ListStyle, PrintedCosts, Rng, StepFault,
     StepPlace, TableAim,
 };
-use second::lengths::{candidates_text, LONGEST_NETWORK_TEXT};
+use second::lengths::{candidates_text, LONGEST_NETWORK_TEXT, LONGEST_REASONS_TEXT};
 use second::{read_kept, write_chain, Chain, Network, Plan, Table};
 
 use crate::difference::{Compared, Difference, Given, Text, Words};
-use crate::{candidates, chains, crowded, lists, networks, pages, program, tables};
+use crate::{candidates, chains, crowded, lists, networks, pages, program, reasons, tables};
 
 const VERTICES: usize = 256;
 const SEED: u64 = 1;
@@ -185,11 +186,12 @@ fn not_meant(service: &'static str, meant: &str, given: &Given, answer: &dyn Deb
     Difference::new(service, fault, given, &Words(meant), answer)
 }
 
-/// Check, plan, chain checks and audits.
+/// Check, plan, chain checks, reasons and audits.
 fn services(rng: &mut Rng, case: &Case, place: usize) -> Compared {
     networks::check(&case.text)?;
     plans(rng, case)?;
     passing_chain(rng, case)?;
+    passing_reasons(rng, case)?;
     wrong_chain(rng, case, place)?;
     wrong_steps(rng, case, place)?;
     audits(rng, case)
@@ -219,6 +221,30 @@ fn passing_chain(rng: &mut Rng, case: &Case) -> Compared {
     }
 }
 
+/// The reasons of the planner's chain with a buffer that is exact and one that is a byte short, or of
+/// a chain by rule with an exact one.
+fn passing_reasons(rng: &mut Rng, case: &Case) -> Compared {
+    let Case { network, text, .. } = case;
+    let (chain, lengths) = match case.short {
+        Short::Chain => {
+            let chain = generate::chain_by_rule(rng, network);
+            (
+                chains::chain_text(VERTICES, &chain),
+                vec![LONGEST_REASONS_TEXT],
+            )
+        }
+        Short::Kept => (
+            case.plan.chain.clone(),
+            vec![LONGEST_REASONS_TEXT, LONGEST_REASONS_TEXT - 1],
+        ),
+    };
+    let due = reasons::due_reasons(text, &chain);
+    for length in lengths {
+        reasons::write_into(rng, text, &chain, &due, length)?;
+    }
+    reasons::same_as_check(text, &chain, &due)
+}
+
 /// A chain that is refused: at its end, or at any place.
 fn wrong_chain(rng: &mut Rng, case: &Case, place: usize) -> Compared {
     let chain = match case.short {
@@ -226,7 +252,10 @@ fn wrong_chain(rng: &mut Rng, case: &Case, place: usize) -> Compared {
         Short::Kept => aimed(rng, case, place)?,
     };
     match second::check_chain(&case.text, &chain) {
-        Err(refusal) => chains::check_into(rng, &case.text, &chain, &Err(refusal), 0),
+        Err(refusal) => {
+            chains::check_into(rng, &case.text, &chain, &Err(refusal), 0)?;
+            reasons::write_into(rng, &case.text, &chain, &Err(refusal), 0)
+        }
         Ok(kept) => Err(not_meant(
             "chain check",
             "a refusal",
@@ -266,6 +295,8 @@ fn wrong_steps(rng: &mut Rng, case: &Case, place: usize) -> Compared {
         chains::meets(&case.text, &fault, &faulty, Some(refusal))?;
         let exact = case.plan.kept.len();
         chains::check_into(rng, &case.text, &faulty, &Err(refusal), exact)?;
+        let exact = LONGEST_REASONS_TEXT;
+        reasons::write_into(rng, &case.text, &faulty, &Err(refusal), exact)?;
     }
     Ok(())
 }

@@ -25,6 +25,7 @@ mod lists;
 mod networks;
 mod pages;
 mod program;
+mod reasons;
 mod rounds;
 mod steps;
 mod tables;

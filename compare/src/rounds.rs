@@ -7,14 +7,15 @@ use second::generate::Rng;
 
 use crate::difference::{Compared, Difference, Words};
 use crate::{
-    candidates, chains, costs, crowded, lists, networks, pages, program, steps, tables, vectors,
+    candidates, chains, costs, crowded, lists, networks, pages, program, reasons, steps, tables,
+    vectors,
 };
 
 /// A part of a round and its name.
 type Part = (&'static str, fn(&mut Rng) -> Compared);
 
 /// New parts stand last, so that those before them keep their numbers.
-const PARTS: [Part; 26] = [
+const PARTS: [Part; 29] = [
     ("program", program::plan),
     ("network-texts", networks::texts),
     ("network-columns", networks::columns),
@@ -41,6 +42,9 @@ const PARTS: [Part; 26] = [
     ("candidate-vectors", vectors::candidates),
     ("step-faults", steps::faults),
     ("chain-columns", chains::columns),
+    ("reasons", reasons::chains),
+    ("reason-refusals", reasons::refusals),
+    ("reason-vectors", vectors::reasons),
 ];
 
 /// Runs all rounds, and says how many differences were met.
@@ -128,15 +132,17 @@ mod tests {
     use second::audit::audit_list;
     use second::columns::write_chain;
     use second::generate::{
-        self, Family, StepColumn, StepFault, StepPlace, EDGE_AS_SPAN, MANY_CANDIDATES, NARROW_EDGE,
-        NARROW_SPAN, SPAN_AS_EDGE,
+        self, Aim, Family, NetworkAim, StepColumn, StepFault, StepPlace, EDGE_AS_SPAN,
+        MANY_CANDIDATES, NARROW_EDGE, NARROW_SPAN, SPAN_AS_EDGE,
     };
-    use second::lengths::{candidates_text, fits, step_column};
+    use second::lengths::{candidates_text, fits, reasons_text, step_column};
     use second::lines::{Lines, Shape, EDGE, HEAD, SPAN, TABLE_HEAD};
+    use second::refusal::NOT_GIVEN;
     use second::texts::COST_LIMIT;
-    use second::Network;
+    use second::{Network, Rule};
 
     use super::*;
+    use crate::buffers::four;
 
     /// What the check of a table may answer; 13 comes with the short buffers of the accepted ones.
     const ANSWERS: [u8; 10] = [0, 1, 2, 3, 4, 5, 6, 7, 15, 16];
@@ -406,6 +412,113 @@ mod tests {
         }
     }
 
+    /// The networks and chains of the parts about reasons, each with the vertices that its buffers are for.
+    fn reasoned(part: &str, rng: &mut Rng) -> Vec<(Vec<u8>, Vec<u8>, usize)> {
+        let mut all = Vec::new();
+        match part {
+            "reasons" => {
+                for (network, chains) in reasons::passing(rng) {
+                    let text = generate::text(&network);
+                    let chains = chains.into_iter();
+                    all.extend(chains.map(|chain| (text.clone(), chain, network.vertices)));
+                }
+            }
+            "reason-refusals" => {
+                let cases = reasons::every_refusal(rng).into_iter();
+                all.extend(cases.map(|case| (case.network, case.chain, case.vertices)));
+            }
+            _ => {}
+        }
+        all
+    }
+
+    /// What the service of reasons answers.
+    const REASON_ANSWERS: [u8; 15] = [0, 1, 2, 3, 4, 5, 6, 7, 8, 9, 10, 11, 12, 13, 17];
+
+    #[test]
+    fn every_round_has_reasons_of_every_answer() {
+        for seed in 1..=40 {
+            let mut met = BTreeSet::new();
+            for (part, mut rng) in parts(seed) {
+                for (network, chain, vertices) in reasoned(part.0, &mut rng) {
+                    let reasons = second::reasons(&network, &chain);
+                    for length in four(&mut rng, reasons_text(vertices)) {
+                        let due = reasons.as_ref().map_err(|&refusal| refusal);
+                        let answer = due.and_then(|text| fits(text.len(), length));
+                        met.insert(answer.err().unwrap_or(0));
+                    }
+                }
+            }
+            assert_eq!(met, BTreeSet::from(REASON_ANSWERS));
+        }
+    }
+
+    #[test]
+    fn every_round_has_refused_networks_with_chains_of_both_sorts() {
+        let refused = NETWORK_ANSWERS.into_iter().filter(|&answer| answer > 0);
+        let both = refused.flat_map(|refusal| [(refusal, false), (refusal, true)]);
+        let due: BTreeSet<_> = both.chain([(0, true)]).collect();
+        for (part, mut rng) in (1..=40).flat_map(parts) {
+            if part.0 != "reason-refusals" {
+                continue;
+            }
+            let mut met = BTreeSet::new();
+            for case in reasons::every_refusal(&mut rng) {
+                let of_network = second::check_network(&case.network).err();
+                assert_eq!(of_network, case.of_network);
+                met.insert((of_network.unwrap_or(0), case.of_chain.is_some()));
+            }
+            assert_eq!(met, due);
+        }
+    }
+
+    #[test]
+    fn few_rounds_have_every_fault_of_a_chain_without_reasons() {
+        let mut met = BTreeSet::new();
+        for (part, mut rng) in (1..=200).flat_map(parts) {
+            if part.0 == "reason-refusals" {
+                let cases = reasons::every_refusal(&mut rng).into_iter();
+                met.extend(cases.map(|case| case.fault));
+            }
+        }
+        let aims = Aim::ALL.iter().filter(|aim| aim.refusal().is_some());
+        let faults = StepFault::ALL.iter();
+        let faults = faults.filter(|fault| fault.refusal() == NOT_GIVEN);
+        let mut every: BTreeSet<String> = aims.map(|aim| format!("{aim:?}")).collect();
+        every.extend(faults.map(|fault| format!("{fault:?}")));
+        every.extend(NetworkAim::ALL.iter().map(|aim| format!("{aim:?}")));
+        every.insert("Broken".to_owned());
+        assert_eq!(met, every);
+    }
+
+    #[test]
+    fn few_rounds_have_reasons_of_every_rule_from_either_end() {
+        let (mut rules, mut ends, mut planned) = (BTreeSet::new(), BTreeSet::new(), 0);
+        for (part, mut rng) in (1..=40).flat_map(parts) {
+            if part.0 != "reasons" {
+                continue;
+            }
+            for (network, chain, vertices) in reasoned(part.0, &mut rng) {
+                let frames = second::reasons(&network, &chain).expect("it passes");
+                let all = second::read_reasons(&frames).expect("they read");
+                rules.extend(all.iter().map(|reason| (reason.rule, reason.step > 1)));
+                let plan = second::plan(&network).expect("it is accepted");
+                planned += usize::from(chain == plan.chain);
+                let network = second::read_network(&network).expect("it reads");
+                let edge = network.edges[network.reserved];
+                let chain = second::read_chain(vertices, &chain).expect("it reads");
+                ends.extend(chain.steps.first().map(|step| step.v == edge.high));
+            }
+        }
+        let retiring = [Rule::KeptAsY, Rule::KeptAsX, Rule::OutAsX];
+        let late = retiring.map(|rule| (rule, true));
+        let every = Rule::ALL.map(|rule| (rule, false)).into_iter().chain(late);
+        assert_eq!(rules, every.collect());
+        assert_eq!(ends, BTreeSet::from([false, true]));
+        // The planner's chain twice in each round.
+        assert!(planned >= 80);
+    }
+
     /// What the check of a text answers, and what it meets for that: in an accepted text costs at a
     /// limit, else a cost beyond the limits or a frame with other fields; and whether a cost is
     /// below zero.
@@ -513,6 +626,7 @@ mod tests {
             "half-built-audits" => lists::half_built(rng).map(|(network, _)| network).into(),
             "pages" => pages::printable(rng).map(|(network, _)| network).into(),
             "candidates" => candidates::tried(rng).map(|(network, _)| network).into(),
+            "reasons" => reasons::passing(rng).map(|(network, _)| network).into(),
             _ => Vec::new(),
         }
     }
@@ -528,7 +642,7 @@ mod tests {
                 *all += 1;
             }
         }
-        assert_eq!(counted.len(), 8);
+        assert_eq!(counted.len(), 9);
         for (part, [wide, all]) in counted {
             assert!(2 * wide > all, "{part}: {wide} of {all}");
         }

@@ -3,13 +3,16 @@
 use std::fmt::Debug;
 
 use second::columns::{self, StepColumns};
-use second::generate::{self, chain_by_rule, changed_chain, CandidateStyle, Rng, WrongPlace};
+use second::generate::{
+    self, chain_by_rule, changed_chain, CandidateStyle, NetworkAim, Rng, WrongPlace,
+};
 use second::Refusal;
 
 use crate::chains::chain_text;
 use crate::costs::some_vertices;
 use crate::difference::{Compared, Difference, Given, Text};
 use crate::networks::{any_text, MANY_VERTICES};
+use crate::reasons::small_network;
 use crate::steps;
 use crate::tables::every_sort;
 
@@ -176,6 +179,40 @@ fn some_candidates(network: &[u8], reserved: &[u16]) -> Compared {
     same::<Vec<(i64, i64)>>("candidates", shown, costs, due)
 }
 
+/// Reasons of chains by rule, changed ones and ones with a fault of a step, over an accepted network,
+/// and of one over a network with any fault.
+pub fn reasons(rng: &mut Rng) -> Compared {
+    let network = small_network(rng);
+    let vertices = network.vertices;
+    let text = generate::text(&network);
+    let by_rule = chain_text(vertices, &chain_by_rule(rng, &network));
+    let mut chains = vec![by_rule, changed_chain(rng, &network)];
+    chains.extend(steps::any_fault(rng, &network).map(|(_, faulty)| faulty));
+    for chain in &chains {
+        some_reasons(&text, chain)?;
+    }
+    let aim = rng.pick(&NetworkAim::ALL);
+    let (faulty, _) = generate::aimed_network(rng, aim, vertices);
+    some_reasons(&faulty, &chains[0])
+}
+
+fn some_reasons(network: &[u8], chain: &[u8]) -> Compared {
+    let shown: &Given = &[("network", &Text(network)), ("chain", &Text(chain))];
+    let reasons = thinning::reasons(network, chain).map(|all| {
+        all.iter()
+            .map(|reason| (reason.edge, reason.rule.number(), reason.step))
+            .collect()
+    });
+    let due = second::reasons(network, chain)
+        .and_then(|frames| second::read_reasons(&frames))
+        .map(|all| {
+            all.iter()
+                .map(|reason| (reason.edge, reason.rule.number(), reason.step))
+                .collect()
+        });
+    same::<Vec<(u16, u8, u16)>>("reasons", shown, reasons, due)
+}
+
 /// Check, plan and network of tables.
 pub fn tables(rng: &mut Rng) -> Compared {
     for text in every_sort(rng)? {
@@ -196,7 +233,8 @@ pub fn tables(rng: &mut Rng) -> Compared {
 mod tests {
     use second::lengths::{
         candidates_text, edge_column, kept_text, step_column, LONGEST_CHAIN_TEXT,
-        LONGEST_LIST_TEXT, LONGEST_NETWORK_TEXT, LONGEST_PAGE, LONGEST_TABLE_TEXT,
+        LONGEST_LIST_TEXT, LONGEST_NETWORK_TEXT, LONGEST_PAGE, LONGEST_REASONS_TEXT,
+        LONGEST_TABLE_TEXT,
     };
     use second::texts::MOST_VERTICES;
 
@@ -210,6 +248,7 @@ mod tests {
         assert_eq!(thinning::CHAIN_TEXT, LONGEST_CHAIN_TEXT);
         // All edges but the reserved one are kept.
         assert_eq!(thinning::KEPT_TEXT, kept_text(edges - 1));
+        assert_eq!(thinning::REASONS_TEXT, LONGEST_REASONS_TEXT);
         assert_eq!(thinning::LIST_TEXT, LONGEST_LIST_TEXT);
         assert_eq!(thinning::PAGE_TEXT, LONGEST_PAGE);
         assert_eq!(thinning::TABLE_TEXT, LONGEST_TABLE_TEXT);

@@ -73,6 +73,29 @@ pub fn check_chain_by(
     chain_text: &[u8],
     method: Method,
 ) -> Result<Vec<u8>, Refusal> {
+    let passed = read_passing(network_text, chain_text, method)?;
+    let Chain { steps, dropped } = &passed.chain;
+    let dropped = usize::from(*dropped);
+    let kept = go_back(&passed.network, &passed.last_three, dropped, steps);
+    Ok(write_kept(&kept))
+}
+
+/// A chain that passes.
+pub(crate) struct Passed {
+    /// The network that it is a chain of.
+    pub network: Network,
+    /// The chain.
+    pub chain: Chain,
+    /// The edges of which the ending drops one.
+    last_three: Vec<usize>,
+}
+
+/// Reads a network text and a chain text, and gives both if the chain passes.
+pub(crate) fn read_passing(
+    network_text: &[u8],
+    chain_text: &[u8],
+    method: Method,
+) -> Result<Passed, Refusal> {
     let network = read_accepted(network_text, method)?;
     let mut working = Working::new(&network);
     let mut lines = Lines::new(chain_text);
@@ -90,7 +113,15 @@ pub fn check_chain_by(
         return Err(BAD_DROP);
     }
     lines.finish()?;
-    Ok(write_kept(&go_back(&network, &last_three, dropped, &steps)))
+    let chain = Chain {
+        steps,
+        dropped: as_number(dropped),
+    };
+    Ok(Passed {
+        network,
+        chain,
+        last_three,
+    })
 }
 
 /// Whether a step keeps the rules: refusals 8 to 11 in their order, then 17.

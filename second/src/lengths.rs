@@ -1,6 +1,6 @@
 //! How long texts and columns are, and when a buffer is too short for them.
 
-use crate::lines::{EDGE, ENDING, HEAD, LISTED, REFUSED, SPAN, STEP, SUMS, TABLE_HEAD};
+use crate::lines::{EDGE, ENDING, HEAD, LISTED, REASON, REFUSED, SPAN, STEP, SUMS, TABLE_HEAD};
 use crate::page::LINE_LENGTH;
 use crate::refusal::{Refusal, SHORT_BUFFER};
 use crate::texts::MOST_VERTICES;
@@ -28,6 +28,11 @@ pub const fn kept_text(edges: usize) -> usize {
 /// Bytes of the frames 06 of so many candidates.
 pub const fn candidates_text(candidates: usize) -> usize {
     candidates * SUMS.line_length()
+}
+
+/// Bytes of the reasons for so many vertices: a frame 0a for each edge.
+pub const fn reasons_text(vertices: usize) -> usize {
+    edge_column(vertices) * REASON.line_length()
 }
 
 /// Bytes of the page of so many edges: a line for each, and one for the sum.
@@ -61,6 +66,8 @@ pub const LONGEST_NETWORK_TEXT: usize = network_text(MOST_VERTICES);
 pub const LONGEST_CHAIN_TEXT: usize = chain_text(MOST_VERTICES);
 /// Bytes of the longest audit list.
 pub const LONGEST_LIST_TEXT: usize = list_text(edge_column(MOST_VERTICES));
+/// Bytes of the longest reasons.
+pub const LONGEST_REASONS_TEXT: usize = reasons_text(MOST_VERTICES);
 /// Bytes of the longest page.
 pub const LONGEST_PAGE: usize = page(edge_column(MOST_VERTICES));
 /// Bytes of the longest table text, whose spans stand for one edge each.
@@ -85,6 +92,8 @@ mod tests {
         assert_eq!(LONGEST_CHAIN_TEXT, 8_897);
         assert_eq!([2, 3].map(chain_text), [7, 42]);
         assert_eq!(LONGEST_LIST_TEXT, 3_584);
+        assert_eq!(LONGEST_REASONS_TEXT, 6_656);
+        assert_eq!([2, 3].map(reasons_text), [52, 78]);
         assert_eq!(LONGEST_PAGE, 18_981);
         assert_eq!(LONGEST_TABLE_TEXT, 14_863);
         assert_eq!(kept_text(0), 35);

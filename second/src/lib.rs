@@ -28,6 +28,7 @@ pub mod lines;
 pub mod network;
 pub mod page;
 pub mod properties;
+pub mod reasons;
 pub mod refusal;
 pub mod tables;
 pub mod texts;
@@ -38,6 +39,7 @@ pub use candidates::{plan_candidates_by, read_candidates, Sums};
 pub use chain::{check_chain_by, plan_by, Plan};
 pub use network::Method;
 pub use page::{print_page, read_page, Page};
+pub use reasons::{read_reasons, reasons_by, Reason, Rule};
 pub use refusal::Refusal;
 pub use tables::{
     check_table_by, plan_table_by, read_table, table_network, write_table, Span, Table,
@@ -71,6 +73,12 @@ pub fn plan_candidates(network: &[u8], reserved: &[u16]) -> Result<Vec<u8>, Refu
 /// Checks any bytes as a chain over a network text: the kept text, or refusals 1 to 12 and 17.
 pub fn check_chain(network: &[u8], chain: &[u8]) -> Result<Vec<u8>, Refusal> {
     check_chain_by(network, chain, Method::Mixed)
+}
+
+/// What put each edge in or out, for any bytes that pass as a chain over a network text: a frame 0a
+/// for each edge, or the refusals of the chain's check.
+pub fn reasons(network: &[u8], chain: &[u8]) -> Result<Vec<u8>, Refusal> {
+    reasons_by(network, chain, Method::Mixed)
 }
 
 /// Checks a table text: refusals 1 to 5, 15 and 16, then 6 and 7 of its network.

@@ -99,6 +99,11 @@ pub const SPAN: Shape<4> = Shape {
         COST,
     ],
 };
+/// Edge, rule, step.
+pub const REASON: Shape<3> = Shape {
+    kind: 0x0a,
+    fields: [Field::Unsigned(2), Field::Unsigned(1), Field::Unsigned(2)],
+};
 /// Refusal number.
 pub const REFUSED: Shape<1> = Shape {
     kind: 0x0f,
@@ -230,7 +235,7 @@ mod tests {
     }
 
     #[test]
-    fn lengths_of_the_nine_kinds() {
+    fn lengths_of_the_ten_kinds() {
         assert_eq!(HEAD.line_length(), 11);
         assert_eq!(EDGE.line_length(), 31);
         assert_eq!(STEP.line_length(), 35);
@@ -239,6 +244,7 @@ mod tests {
         assert_eq!(SUMS.line_length(), 35);
         assert_eq!(TABLE_HEAD.line_length(), 15);
         assert_eq!(SPAN.line_length(), 29);
+        assert_eq!(REASON.line_length(), 13);
         assert_eq!(REFUSED.line_length(), 5);
     }
 
@@ -264,6 +270,9 @@ mod tests {
             assert_read_again(STEP, [0, 65_535, 511, 256, number]);
             assert_read_again(SPAN, [0, 65_535, 255, number]);
             assert_read_again(SUMS, [number, -1]);
+        }
+        for fields in [[0, 0, 0], [511, 5, 254], [65_535, 255, 65_535]] {
+            assert_read_again(REASON, fields);
         }
     }
 

@@ -1,6 +1,6 @@
 //! What holds of every kept text, checked without the chain it came from, of every chain that
-//! passes, checked without judging a cut, of the sums of every candidate, checked without a plan,
-//! and of every page, checked without printing one.
+//! passes, checked without judging a cut, of its reasons, checked by what it keeps, of the sums of
+//! every candidate, checked without a plan, and of every page, checked without printing one.
 
 use std::collections::BTreeMap;
 
@@ -8,6 +8,7 @@ use crate::candidates::{read_candidates, Sums};
 use crate::cuts::Multigraph;
 use crate::network::Method;
 use crate::page::{read_page, Page};
+use crate::reasons::{read_reasons, Reason, Rule};
 use crate::tables::{read_table, table_network, Table};
 use crate::texts::{read_chain, read_kept, read_list, read_network, Edge, Network, Step};
 use crate::working::as_number;
@@ -97,6 +98,60 @@ fn judge_step(edges: &mut BTreeMap<u16, Edge>, reserved: u16, step: Step) -> Res
     edges.remove(&x);
     edges.remove(&y);
     Ok(())
+}
+
+/// Says what is wrong with the reasons of a chain that passes and keeps these edges, if anything is.
+///
+/// Looked at: form, one frame for each edge in edge order; that the reserved edge alone has rule 0,
+/// the dropped edge alone rule 5 and two edges rule 4; that of each step y alone has rule 1 and x
+/// alone rule 2 or 3, as z is kept or isn't; and that rules 1, 2 and 4 are those of the kept edges.
+pub fn judge_reasons(
+    network_text: &[u8],
+    chain_text: &[u8],
+    kept_text: &[u8],
+    text: &[u8],
+) -> Result<(), String> {
+    let network = read_network(network_text).map_err(|r| format!("network refused by {r}"))?;
+    let chain = read_chain(network.vertices, chain_text);
+    let chain = chain.map_err(|_| "broken chain text".to_owned())?;
+    let kept = read_kept(kept_text).map_err(|_| "broken kept text".to_owned())?;
+    let reasons = read_reasons(text).map_err(|_| "broken frames".to_owned())?;
+
+    let every_edge = (0..).take(network.edges.len());
+    if !reasons.iter().map(|reason| reason.edge).eq(every_edge) {
+        return Err("there isn't one frame for each edge in order".to_owned());
+    }
+    let with = |rule: Rule, step: u16| edges_with(&reasons, rule, step);
+    if with(Rule::Reserved, 0) != [as_number(network.reserved)] {
+        return Err("the reserved edge alone has rule 0".to_owned());
+    }
+    if with(Rule::DroppedAtEnding, 0) != [chain.dropped] {
+        return Err("the dropped edge alone has rule 5".to_owned());
+    }
+    if with(Rule::KeptAtEnding, 0).len() != 2 {
+        return Err("two edges have rule 4".to_owned());
+    }
+    for (number, step) in (1..).zip(&chain.steps) {
+        let of_x = if kept.edges.contains(&step.z) {
+            Rule::OutAsX
+        } else {
+            Rule::KeptAsX
+        };
+        if with(Rule::KeptAsY, number) != [step.y] || with(of_x, number) != [step.x] {
+            return Err(format!("step {number} retires x by {of_x:?} and y"));
+        }
+    }
+    let keeping = reasons.iter().filter(|reason| reason.rule.keeps());
+    if !keeping.map(|reason| &reason.edge).eq(&kept.edges) {
+        return Err("other edges are kept".to_owned());
+    }
+    Ok(())
+}
+
+/// The edges that have this rule and this step.
+fn edges_with(reasons: &[Reason], rule: Rule, step: u16) -> Vec<u16> {
+    let having = reasons.iter().filter(|r| (r.rule, r.step) == (rule, step));
+    having.map(|reason| reason.edge).collect()
 }
 
 /// The sum of the costs of all edges but one.
@@ -269,6 +324,59 @@ mod tests {
             assert!(judge(&chain).is_err(), "{chain}");
         }
         assert!(judge_chain(b"", b"").is_err());
+    }
+
+    #[test]
+    fn each_fault_of_reasons_is_found() {
+        let chain = b"030001000400050001fffffffffffffffe\n040003\n";
+        let kept = b"050001\n050002\n050005\n0600000000000000080000000000000010\n";
+        let right = "0a0000000000\n0a0001040000\n0a0002040000\n\
+            0a0003050000\n0a0004030001\n0a0005010001\n";
+        let judge = |text: &str| judge_reasons(THREE, chain, kept, text.as_bytes());
+        assert_eq!(judge(right), Ok(()));
+        for (from, to) in [
+            // Another rule: of the reserved edge, of a kept one, of the dropped one, of x and of y.
+            ("0a000000", "0a000005"),
+            ("0a000000", "0a000004"),
+            ("0a000104", "0a000105"),
+            ("0a000104", "0a000101"),
+            ("0a000305", "0a000304"),
+            ("0a000305", "0a000300"),
+            ("0a000403", "0a000402"),
+            ("0a000403", "0a000401"),
+            ("0a000403", "0a000405"),
+            ("0a000501", "0a000503"),
+            ("0a000501", "0a000504"),
+            // Another step: where none is due, and where one is.
+            ("0a0000000000", "0a0000000001"),
+            ("0a0001040000", "0a0001040001"),
+            ("0a0003050000", "0a0003050001"),
+            ("0a0004030001", "0a0004030000"),
+            ("0a0005010001", "0a0005010002"),
+            // x and y exchanged, a dropped edge for a kept one, z with its step.
+            ("04030001\n0a0005010001", "04010001\n0a0005030001"),
+            ("02040000\n0a000305", "02050000\n0a000304"),
+            ("0a0001040000", "0a0001010001"),
+            // Other edges, other forms.
+            ("0a0002", "0a0001"),
+            ("0a0005010001\n", ""),
+            ("0a0000000000\n", ""),
+            ("0a0000000000\n0a0001040000", "0a0001040000\n0a0000000000"),
+            ("0a000305", "0a000306"),
+            ("0a000104", "05000104"),
+            ("0a0005010001\n", "0a0005010001"),
+            ("0a0005010001\n", "0a0005010001\n0a0006040000\n"),
+        ] {
+            assert!(right.contains(from), "{from}");
+            let text = right.replacen(from, to, 1);
+            assert!(judge(&text).is_err(), "{text}");
+        }
+        let judge = |kept: &[u8]| judge_reasons(THREE, chain, kept, right.as_bytes());
+        let other = b"050001\n050003\n050005\n0600000000000000090000000000000010\n";
+        assert!(judge(other).is_err());
+        assert!(judge(b"").is_err());
+        assert!(judge_reasons(THREE, b"040003\n", kept, right.as_bytes()).is_err());
+        assert!(judge_reasons(b"", b"", b"", b"").is_err());
     }
 
     #[test]

@@ -2,8 +2,8 @@
 //!
 //! Here every answer comes in vectors of its own. [`raw`] has the same services over slices that the caller lends.
 //!
-//! [`plan`], [`plan_candidates`], [`plan_table`] and [`check_chain`] go as deep as there are vertices: a thread that
-//! calls them needs 1.5 MB of stack for 256 vertices, which the threads of the standard library have.
+//! [`plan`], [`plan_candidates`], [`plan_table`], [`check_chain`] and [`reasons()`] go as deep as there are vertices: a
+//! thread that calls them needs 1.5 MB of stack for 256 vertices, which the threads of the standard library have.
 //!
 //! ```
 //! let network = b"0100020000\n\
@@ -14,6 +14,24 @@
 //! let plan = thinning::plan(network).unwrap();
 //! assert_eq!(plan.chain, b"040003\n");
 //! assert_eq!(thinning::check_chain(network, &plan.chain), Ok(plan.kept));
+//! ```
+//!
+//! A chain that passes has a reason for each edge: the rule that put it in or out, and the step of which it was x or y.
+//! The chain of that plan has no steps, only an ending, which drops edge 3.
+//!
+//! ```
+//! # let network = b"0100020000\n\
+//! #     020000000000010000000000000005\n\
+//! #     02000100000001ffffffffffffffff\n\
+//! #     020002000000010000000000000003\n\
+//! #     020003000000010000000000000003\n";
+//! use thinning::{Reason, Rule};
+//!
+//! let reasons = thinning::reasons(network, b"040003\n").unwrap();
+//! assert_eq!(reasons[0].rule, Rule::Reserved);
+//! assert_eq!(reasons[3], Reason { edge: 3, rule: Rule::DroppedAtEnding, step: 0 });
+//! let kept = reasons.iter().filter(|reason| reason.rule.keeps());
+//! assert!(kept.map(|reason| reason.edge).eq([1, 2]));
 //! ```
 //!
 //! Candidates for the reserved edge are tried on one network, here edges 3 and 0 of that one. Each gets the cost of
@@ -61,6 +79,7 @@ mod candidates;
 mod meanings;
 #[allow(unsafe_code)]
 pub mod raw;
+mod reasons;
 mod refusal;
 mod tables;
 mod texts;
@@ -69,6 +88,7 @@ pub use candidates::{plan_candidates, Costs};
 pub use meanings::{
     read_chain, read_list, read_network, write_chain, write_list, write_network, Chain, Network,
 };
+pub use reasons::{reasons, Reason, Rule};
 pub use refusal::Refusal;
 pub use tables::{check_table, plan_table, table_network};
 pub use texts::{audit, check_chain, check_network, plan, print_page, Audit, Plan};
@@ -85,6 +105,8 @@ pub const NETWORK_TEXT: usize = 15_883;
 pub const CHAIN_TEXT: usize = 8_897;
 /// The most bytes of a kept text.
 pub const KEPT_TEXT: usize = 3_612;
+/// The most bytes of a chain's reasons.
+pub const REASONS_TEXT: usize = 6_656;
 /// The most bytes of an audit list.
 pub const LIST_TEXT: usize = 3_584;
 /// The most bytes of a page.

@@ -39,6 +39,15 @@ mod declared {
             kept_len: usize,
             kept_written: *mut usize,
         ) -> u32;
+        pub fn thinning_reasons(
+            network: *const u8,
+            network_len: usize,
+            chain: *const u8,
+            chain_len: usize,
+            reasons: *mut u8,
+            reasons_len: usize,
+            written: *mut usize,
+        ) -> u32;
         pub fn thinning_audit(
             network: *const u8,
             network_len: usize,
@@ -215,6 +224,23 @@ pub fn check_chain(network: &[u8], chain: &[u8], kept: &mut [u8], kept_written: 
             kept.as_mut_ptr(),
             kept.len(),
             kept_written,
+        )
+    }
+}
+
+/// Checks any bytes as a chain over a network text, and says what put each edge in or out: a frame 0a for each, in the
+/// order of their numbers, and the length of them all. A frame has 13 bytes.
+pub fn reasons(network: &[u8], chain: &[u8], reasons: &mut [u8], written: &mut usize) -> u32 {
+    // SAFETY: both texts are slices that are only read; the buffer and the number are lent to this call alone.
+    unsafe {
+        declared::thinning_reasons(
+            network.as_ptr(),
+            network.len(),
+            chain.as_ptr(),
+            chain.len(),
+            reasons.as_mut_ptr(),
+            reasons.len(),
+            written,
         )
     }
 }
