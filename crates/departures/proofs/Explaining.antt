@@ -166,6 +166,16 @@ leaves-two {g} {ts = t ∷ ts} {d = d} j sound (step more r rest) =
             (eq-eqb (departureFrom (suc j) (after g t) ts d e .rule) KEPT-LAST (sym (ap (λ h. h .rule) (p .2)) ∙ b)))
             (now-or-later j g t ts d e)
 
+-- ── the rules are six ──
+pub rules-few : (k : ℕ) (g : Network) (ts : List Step) (d e : ℕ) → departureFrom k g ts d e .rule ≤ DROPPED-LAST
+rules-few k g ts d e = go (form k g ts d e)
+  where
+    go : {h : Departure} → Form k h → h .rule ≤ DROPPED-LAST
+    go (at-none s (inl r)) = omega arith
+    go (at-none s (inr (inl r))) = omega arith
+    go (at-none s (inr (inr r))) = omega arith
+    go (at-step s a b) = omega arith
+
 -- ── what is owed ──
 
 -- an account that agrees with the definition at the edges of a network as it is read
@@ -173,7 +183,7 @@ pub explained : {g : Network} {ts : List Step} {d : ℕ} {K : List Bool} → Sou
     → Back g ts d K → (how : ℕ → Departure) → ((e : ℕ) → e < g .edges → how e ≡ departure g ts d e)
     → Explained g ts d K how
 explained {g} {ts} {d} {K} sound fresh ruled back how agrees = record {
-  ruled = λ e l. rw (agrees e l) (six (form FIRST-STEP g ts d e));
+  ruled = λ e l. rw (agrees e l) (rules-few FIRST-STEP g ts d e);
   exactly = λ e l. rw (agrees e l) (leaves-exactly FIRST-STEP sound ruled back e l (all-live e l));
   reserved = rw (agrees (g .reserved) reserved<) (reserved-leaves FIRST-STEP sound ruled);
   one-reserved = one-by RESERVED-EDGE (g .reserved) reserved< (reserved-leaves FIRST-STEP sound ruled)
@@ -197,12 +207,6 @@ explained {g} {ts} {d} {K} sound fresh ruled back how agrees = record {
 
     same-last : (e : ℕ) → e < g .edges → leavesBy how KEPT-LAST e ≡ keptLast FIRST-STEP g ts d e
     same-last e l = rw (agrees e l, all-live e l)
-
-    six : {h : Departure} → Form FIRST-STEP h → h .rule ≤ DROPPED-LAST
-    six (at-none s (inl r)) = omega arith
-    six (at-none s (inr (inl r))) = omega arith
-    six (at-none s (inr (inr r))) = omega arith
-    six (at-step s a b) = omega arith
 
     none : {h : Departure} → Form FIRST-STEP h
         → (h .step ≡ 0) ↔ ((h .rule ≡ RESERVED-EDGE) ⊎ (h .rule ≡ KEPT-LAST) ⊎ (h .rule ≡ DROPPED-LAST))

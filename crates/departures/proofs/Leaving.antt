@@ -3,10 +3,11 @@ use mathlib.Core.Path.{_≡_, refl, sym, _∙_, ap}
 use mathlib.Core.Logic.{_≢_, _⊎_, inl, inr, ⊎-elim}
 use mathlib.Core.Bool.{Bool, true, false, not, cond}
 use mathlib.Core.List.{List, [], _∷_}
-use Prim.Native.Nat.{ℕ, suc, _≤_, _<_}
+use Prim.Native.Nat.{ℕ, suc, _+_, _≤_, _<_}
 use native.Mathlib.Omega.{arith}
 use native.Mathlib.Decide.{ℕ-discrete}
 use lib.Dec.{eqb}
+use lib.ListN.{length}
 use Rattle.base.proofs.Bools.{eqb-self, eqb-no, eqb-is}
 use Rattle.graph.specs.Split.{split, after}
 use Rattle.graph.specs.Chain.{ByRules, ending, step}
@@ -191,3 +192,11 @@ only-dropped k g ts d e h = go (eqb e (g .reserved)) (eqb e d) refl
     go true b q h = absurd (omega arith)
     go false true q h = eqb-is q
     go false false q h = absurd (omega arith)
+
+-- ── steps are numbered on from the next one ──
+pub steps-within : (k : ℕ) (g : Network) (ts : List Step) (d e : ℕ) → departureFrom k g ts d e .step ≤ k + length ts
+unfolding departureFrom
+steps-within k g [] d e = omega arith
+steps-within k g (t ∷ ts) d e =
+    ⊎-elim (λ n. omega (arith, n .step-is))
+    (λ p. omega (arith, ap (λ h. h .step) (p .2), steps-within (suc k) (after g t) ts d e)) (now-or-later k g t ts d e)
