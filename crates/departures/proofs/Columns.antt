@@ -20,7 +20,7 @@ use Rattle.graph.specs.State.{noMarks}
 use Rattle.graph.specs.Split.{after}
 use Rattle.graph.specs.declared.Network.{Network}
 use Rattle.graph.specs.declared.Step.{Step}
-use Rattle.departures.specs.Departures.{KEPT-AS-Y, KEPT-LAST, DROPPED-LAST, RESERVED-EDGE, Departure, keeps}
+use Rattle.departures.specs.Departures.{RESERVED-EDGE, KEPT-AS-Y, KEPT-LAST, DROPPED-LAST, Departure, keeps}
 use Rattle.departures.specs.Departures.{ruleOfX, departureFrom}
 use Rattle.departures.specs.Columns.{ruleColumn, stepColumn, allLast, noSteps, endingNoted, rulesBack, stepsBack}
 use Rattle.departures.specs.Columns.{keptBy}

@@ -20,13 +20,6 @@ use Rattle.departures.specs.Departures.{Departure, keeps, ruleOfX, endRu
 use Rattle.departures.proofs.Retiring.{live, was-live, edges-stay, dropped-live}
 
 -- ── the rule of x ──
-pub x-rule : (z-rule : ℕ) → (ruleOfX z-rule ≡ KEPT-AS-X) ⊎ (ruleOfX z-rule ≡ OUT-AS-X)
-x-rule z-rule = go (keeps z-rule)
-  where
-    go : (t : Bool) → (cond t OUT-AS-X KEPT-AS-X ≡ KEPT-AS-X) ⊎ (cond t OUT-AS-X KEPT-AS-X ≡ OUT-AS-X)
-    go true = inr refl
-    go false = inl refl
-
 -- x is kept exactly if z is not
 pub x-keeps : (z-rule : ℕ) → keeps (ruleOfX z-rule) ≡ not (keeps z-rule)
 x-keeps z-rule = go (keeps z-rule)
@@ -34,6 +27,14 @@ x-keeps z-rule = go (keeps z-rule)
     go : (t : Bool) → keeps (cond t OUT-AS-X KEPT-AS-X) ≡ not t
     go true = unfold keeps in refl
     go false = unfold keeps in refl
+
+-- it is one of two
+pub x-rule : (z-rule : ℕ) → (ruleOfX z-rule ≡ KEPT-AS-X) ⊎ (ruleOfX z-rule ≡ OUT-AS-X)
+x-rule z-rule = go (keeps z-rule)
+  where
+    go : (t : Bool) → (cond t OUT-AS-X KEPT-AS-X ≡ KEPT-AS-X) ⊎ (cond t OUT-AS-X KEPT-AS-X ≡ OUT-AS-X)
+    go true = inr refl
+    go false = inl refl
 
 -- ── one step ──
 

@@ -26,9 +26,9 @@ pub fn explain_chain(network: &[u8], chain: &[u8], reasons: &mut [u8]) -> Reply
     let state = accepted.network;
     let mut rules = [KEPT_LAST; EDGE_LIMIT];
     let mut steps = [0u16; EDGE_LIMIT];
-    let refusal = check_from(state, chain, 0, FIRST_STEP, &mut rules, &mut steps);
-    if 0 < refusal {
-        return Reply::Refused(refusal);
+    let verdict = check_from(state, chain, 0, FIRST_STEP, &mut rules, &mut steps);
+    if 0 < verdict {
+        return Reply::Refused(verdict);
     }
     write_reasons(&rules, &steps, state.edges, reasons)
 }
