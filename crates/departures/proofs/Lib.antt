@@ -4,3 +4,4 @@ pub mod Leaving
 pub mod Roles
 pub mod Explaining
 pub mod Columns
+pub mod Examples

@@ -1,15 +1,13 @@
--- What is answered, step by step: the network's refusal, the chain's, or the text of the columns.
+-- What is answered, step by step: the network's refusal, the chain's, or how the edges leave in its steps.
 use mathlib.Core.Path.{_≡_, _∙_}
 use mathlib.Core.Bool.{Bool}
 use mathlib.Core.List.{List}
 use Prim.Native.Nat.{ℕ, _-_}
 use Rattle.base.specs.Answer.{refused, answer, andThen}
 use Rattle.base.proofs.Answers.{then-refused, then-answer}
-use Rattle.departures.specs.Departures.{FIRST-STEP}
 use Rattle.graph.specs.declared.Network.{Network}
-use Rattle.reasons_text.specs.Text.{reasonsText}
 use Rattle.claim.specs.Services.{acceptNetwork}
-use Rattle.claim.specs.Verdicts.{checkChain, rulesIn, numbersIn}
+use Rattle.claim.specs.Verdicts.{checkChain, stepsIn, dropIn}
 use Rattle.reasons.specs.Services.{reasonsOf, reasonsOver, chainReasons}
 
 module _ (network chain : List ℕ) where
@@ -26,9 +24,9 @@ module _ (network chain : List ℕ) where
         ∙ then-refused (checkChain (g .remaining - 2) g chain) _ k h
 
     pub chain-answered : (K : List Bool) → checkChain (g .remaining - 2) g chain ≡ answer K
-        → chainReasons network chain
-        ≡ answer (reasonsText (g .edges) (rulesIn FIRST-STEP g chain) (numbersIn FIRST-STEP g chain))
-    unfolding chainReasons reasonsOver reasonsOf rulesIn numbersIn
+        → let n = g .remaining - 2 in
+        chainReasons network chain ≡ answer (reasonsOf g (stepsIn n chain) (dropIn n chain))
+    unfolding chainReasons reasonsOver
     chain-answered K h =
         then-answer (acceptNetwork network) (reasonsOver chain) g e
         ∙ then-answer (checkChain (g .remaining - 2) g chain) _ K h

@@ -32,17 +32,17 @@ use Rattle.kept_text.proofs.Texts.{lists-kept, length-costs}
 use Rattle.list_text.specs.Text.{readList, listText}
 use Rattle.loading.specs.Loading.{networkOf, stateOf}
 use Rattle.loading.specs.Known.{Known}
-use Rattle.reasons_text.specs.Text.{reasonsText, reasonIn}
+use Rattle.reasons_text.specs.Text.{reasonIn}
 use Rattle.reasons_text.proofs.Texts.{each-line}
 use Rattle.rules.specs.Running.{Running}
 use Rattle.claim.specs.Services.{acceptNetwork, keptTextOf, keptIn, checkChainText}
-use Rattle.claim.specs.Verdicts.{checkChain, stepsIn, dropIn, rulesIn, numbersIn}
+use Rattle.claim.specs.Verdicts.{checkChain, stepsIn, dropIn}
 use Rattle.claim.specs.Condition.{Accepted, Ruled}
 use Rattle.claim.proofs.Accepting.{accepted-whole, accepted-running, running-few, chain-network-refused, chain-kept}
 use Rattle.claim.proofs.Accepting.{chain-refused as check-refused}
 use Rattle.claim.proofs.ChainTexts.{steps-found}
 use Rattle.claim.proofs.Condition.{claim, keeps-ruled, ruled-keeps}
-use Rattle.reasons.specs.Services.{chainReasons}
+use Rattle.reasons.specs.Services.{reasonsOf, chainReasons}
 use Rattle.reasons.specs.Condition.{frameLength, saidIn, listPart, SameKept, ReasonsClaim}
 use Rattle.reasons.proofs.Answering.{network-refused, chain-refused, chain-answered}
 
@@ -96,11 +96,11 @@ module _ {t : List ℕ} {g : Network} (a : Accepted t g) where
 
 -- ── what is written over it ──
 module _ {t : List ℕ} {g : Network} (a : Accepted t g) (chain text : List ℕ) (h : chainReasons t chain ≡ answer text) where
-  -- the chain passes, and the text is that of its columns
+  -- the chain passes, and the text is that of its steps and its ending
   record Given : Type 0 where
     marks : List Bool
     passes : checkChain (g .remaining - 2) g chain ≡ answer marks
-    text-is : text ≡ reasonsText (g .edges) (rulesIn FIRST-STEP g chain) (numbersIn FIRST-STEP g chain)
+    text-is : let n = g .remaining - 2 in text ≡ reasonsOf g (stepsIn n chain) (dropIn n chain)
 
   is-given : Given
   is-given = go (checkChain (g .remaining - 2) g chain) refl
@@ -110,21 +110,19 @@ module _ {t : List ℕ} {g : Network} (a : Accepted t g) (chain text : List ℕ)
       go (answer K) q = let e = chain-answered t chain g (accepts a) K q in record { marks = K; passes = q; text-is = cc }
 
   counted : length text ≡ 2 * g .vertices * frameLength
+  unfolding reasonsOf
   counted = ap length (is-given .text-is) ∙ each-line .counted _ _ _ ∙ ap (λ n. n * frameLength) (twice a)
 
   -- for the steps and the ending of the chain
   module _ {K : List Bool} (r : Ruled g chain K) where
-    text-of : text ≡ reasonsText (g .edges) (ruleColumn FIRST-STEP g (r .steps) (r .dropped))
-        (stepColumn FIRST-STEP g (r .steps) (r .dropped))
-    unfolding rulesIn numbersIn
+    text-of : text ≡ reasonsOf g (r .steps) (r .dropped)
     text-of =
         let found = steps-found (r .steps) (r .dropped) (running a) (r .by-rules) in
         let steps : stepsIn (g .remaining - 2) chain ≡ r .steps =
         ap (stepsIn (g .remaining - 2)) (r .text-is) ∙ found .steps in
         let dropped : dropIn (g .remaining - 2) chain ≡ r .dropped =
         ap (dropIn (g .remaining - 2)) (r .text-is) ∙ found .dropped in
-        is-given .text-is
-        ∙ ap₂ (λ ts d. reasonsText (g .edges) (ruleColumn FIRST-STEP g ts d) (stepColumn FIRST-STEP g ts d)) steps dropped
+        is-given .text-is ∙ ap₂ (reasonsOf g) steps dropped
 
     -- what the columns hold at an edge
     rule-at : (e : ℕ) → e < g .edges
@@ -139,6 +137,7 @@ module _ {t : List ℕ} {g : Network} (a : Accepted t g) (chain text : List ℕ)
 
     said : (e : ℕ) → e < g .edges → let how = departure g (r .steps) (r .dropped) e in
         reasonIn text e ≡ record { edge = e; rule = how .rule; step = how .step }
+    unfolding reasonsOf
     said e l =
         let few = rules-few FIRST-STEP g (r .steps) (r .dropped) e in
         let within = steps-within FIRST-STEP g (r .steps) (r .dropped) e in
@@ -153,6 +152,7 @@ module _ {t : List ℕ} {g : Network} (a : Accepted t g) (chain text : List ℕ)
         (λ e l. ap (λ s. record { rule = s .rule; step = s .step }) (said e l))
 
   named : (e : ℕ) → e < g .edges → (isLine REASON (drop (e * frameLength) text) ≡ true) × (reasonIn text e .edge ≡ e)
+  unfolding reasonsOf
   named e l = (
     rw (is-given .text-is) (each-line .line (g .edges) _ _ e l),
     ap (λ s. s .edge) (said (keeps-ruled (running a) (is-given .passes)) e l),

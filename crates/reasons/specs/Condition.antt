@@ -71,3 +71,14 @@ pub record ReasonsClaim : Type 0 where
       → (replyOf (chainReasons t chain) lent ≡ Done (length text)) × (after (chainReasons t chain) lent ≡ over text lent)
   pub untouched : (t chain lent : List ℕ) (k : ℕ) → chainReasons t chain ≡ refused k
       → (replyOf (chainReasons t chain) lent ≡ Refused k) × (after (chainReasons t chain) lent ≡ lent)
+
+-- ── wrong versions that the claim, or a promise by its words, shuts out: each has a must-fail edit ──
+--
+-- says of an x that is out that it is kept      `explained`, its `exactly`   rules_of_x_exchanged, crate departures
+-- numbers the steps from 0                      `explained`, its `no-step`   steps_numbered_from_zero, crate departures
+-- numbers the steps from the end                `explained`, its `y-leaves`  steps_numbered_from_the_end, crate departures
+-- says of the reserved edge that it is dropped  `explained`, its `reserved`  reserved_edge_dropped, crate departures
+-- gives a step's number to its z                promise of `note_step`       step_given_to_z, crate departures
+-- writes a frame for each vertex                `counted`                    a_frame_for_each_vertex
+-- explains a chain that its check refuses       promise of `explain_chain`   refused_chain_explained
+-- measures one frame too few                    promise of `write_reasons`   one_frame_too_few_measured, crate reasons_text

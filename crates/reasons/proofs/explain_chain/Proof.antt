@@ -11,10 +11,11 @@ use Rattle.departures.specs.Columns.{allLast, noSteps}
 use Rattle.loading.proofs.Reading.{loaded-zero, loaded-refused}
 use Rattle.reasons_text.specs.Text.{reasonsText}
 use Rattle.claim.specs.Services.{acceptNetwork}
-use Rattle.claim.specs.Verdicts.{checkChain}
+use Rattle.claim.specs.Verdicts.{checkChain, rulesIn, numbersIn}
 use Rattle.claim.proofs.Chains.{kept-leaves, was-refused, was-kept}
 use Rattle.claim.proofs.Meets.{chain-numbered}
 use Rattle.claim.proofs.Accepting.{accept-numbered, accepted-running, running-few}
+use Rattle.reasons.specs.Services.{reasonsOf}
 use Rattle.reasons.proofs.Answering.{network-refused, chain-refused, chain-answered}
 use Rattle.reasons.proofs.explain_chain.Statement.{statement}
 use Rattle.reasons.proofs.explain_chain.Tie as tie
@@ -72,6 +73,7 @@ same-length : tie.Need-same-length
 same-length c = search needs
 
 returns-3 : tie.Need-returns-3
+unfolding reasonsOf rulesIn numbersIn
 returns-3 c =
     let w = c .before .before in
     let k = w .before .before .before .before in
