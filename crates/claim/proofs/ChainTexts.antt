@@ -11,7 +11,7 @@ use lib.Signed.{mag}
 use borrow.Author.Tests.{leb-true, eq-eqb, lt-ltb}
 use Rattle.base.specs.Answer.{answer, unless}
 use Rattle.frame.specs.Table.{STEP, DROPPED, padded, bytesOf, digitsOf, lineLength}
-use Rattle.frame.specs.Line.{isLine, fieldsOf, lineOf, Fits}
+use Rattle.frame.specs.Line.{isLine, fieldsOf, lineOf}
 use Rattle.frame.specs.Kinds.{stepCostDigits, stepOf, ofStep, droppedOf, ofDropped}
 use Rattle.frame.proofs.Lines.{length-line, line-is, line-rest, fields-found, line-back, line-fits}
 use Rattle.frame.proofs.Named.{step-back, step-found, dropped-back}

@@ -8,8 +8,6 @@ use lib.IntN.{pos, negsuc}
 use Rattle.base.specs.Fold.{tabulate}
 use Rattle.graph.specs.Districts.{District, T, square, Numbers, every}
 use Rattle.graph.specs.Split.{split, after}
-use Rattle.graph.specs.declared.Network.{Network}
-use Rattle.graph.specs.declared.Step.{Step}
 use Rattle.graph.proofs.Examples.{networkOf, stepOf, sameNumbers}
 use Rattle.departures.specs.Departures.{keeps, departureFrom, departure}
 

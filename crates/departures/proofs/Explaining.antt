@@ -9,13 +9,13 @@ use native.Mathlib.Decide.{ℕ-discrete, decLt}
 use lib.Dec.{eqb}
 use lib.ListN.{length}
 use borrow.Author.Tests.{eq-eqb, lt-ltb, le-ltb}
-use Rattle.base.specs.Fold.{without, among, bit}
+use Rattle.base.specs.Fold.{among, bit}
 use Rattle.base.specs.Limits.{fewestVertices, edgeLimit}
 use Rattle.base.proofs.Bools.{never, eqb-self, eqb-no, eqb-is, and-left, and-right, and-both, same-test}
 use Rattle.base.proofs.Sums.{sum-ext, tabulate-at, tabulate-is}
 use Rattle.graph.specs.Network.{kept}
 use Rattle.graph.specs.Split.{partners, after}
-use Rattle.graph.specs.Chain.{lastEdges, LastEdge, ByRules, EndingByRule, ending, step}
+use Rattle.graph.specs.Chain.{LastEdge, ByRules, EndingByRule, ending, step}
 use Rattle.graph.specs.Back.{Back, EndKeeps, ending as ends, step as goes}
 use Rattle.graph.specs.Sound.{Sound, Fresh}
 use Rattle.graph.specs.declared.Network.{Network}
@@ -25,15 +25,15 @@ use Rattle.graph.proofs.Partners.{among-without, Chosen}
 use Rattle.graph.proofs.Endings.{v, held-v, last-is, last-of, of-last}
 use Rattle.graph.proofs.Rules.{Stepped, stepped, sound-step, named}
 use Rattle.graph.proofs.Condition.{fresh-remaining}
-use Rattle.departures.specs.Departures.{RESERVED-EDGE, KEPT-AS-Y, KEPT-LAST, DROPPED-LAST, FIRST-STEP}
+use Rattle.departures.specs.Departures.{RESERVED-EDGE, KEPT-LAST, DROPPED-LAST, FIRST-STEP}
 use Rattle.departures.specs.Departures.{Departure, keeps, endRule, departureFrom, departure}
 use Rattle.departures.specs.Columns.{ruleColumn, keptBy}
-use Rattle.departures.specs.Explained.{howMany, leavesBy, leavesAsY, leavesAsX, Numbered, Explained}
+use Rattle.departures.specs.Explained.{howMany, leavesBy, Numbered, Explained}
 use Rattle.departures.proofs.Counting.{one-passes, two-pass}
 use Rattle.departures.proofs.Retiring.{live, was-live, stays-live, z-stays, edges-stay, dropped-live}
 use Rattle.departures.proofs.Retiring.{steps-counted}
 use Rattle.departures.proofs.Leaving.{x-keeps, Part, as-y, as-x, apart, part, all, behind, leaves-y, leaves-x}
-use Rattle.departures.proofs.Leaving.{leaves-later, now-or-later, Form, at-none, at-step, form, live-later}
+use Rattle.departures.proofs.Leaving.{leaves-later, now-or-later, Form, at-none, at-step, form}
 use Rattle.departures.proofs.Leaving.{reserved-leaves, only-reserved, dropped-leaves, only-dropped}
 use Rattle.departures.proofs.Roles.{Role, role-y, role-x, role-live, role-leaves, role-only, numbered-at}
 

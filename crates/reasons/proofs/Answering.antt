@@ -3,7 +3,7 @@ use mathlib.Core.Path.{_≡_, _∙_}
 use mathlib.Core.Bool.{Bool}
 use mathlib.Core.List.{List}
 use Prim.Native.Nat.{ℕ, _-_}
-use Rattle.base.specs.Answer.{refused, answer, andThen}
+use Rattle.base.specs.Answer.{refused, answer}
 use Rattle.base.proofs.Answers.{then-refused, then-answer}
 use Rattle.graph.specs.declared.Network.{Network}
 use Rattle.claim.specs.Services.{acceptNetwork}

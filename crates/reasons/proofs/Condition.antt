@@ -1,22 +1,21 @@
 -- What is owed of reasons, for every network text, whatever bytes are proposed as a chain and whatever buffer is lent.
 use mathlib.Core.Logic.{_↔_}
 use mathlib.Core.Path.{_≡_, refl, sym, _∙_, ap, ap₂}
-use mathlib.Core.Bool.{Bool, true, _&&_}
+use mathlib.Core.Bool.{Bool, true}
 use mathlib.Core.List.{List, _++_}
-use Prim.Native.Nat.{ℕ, _+_, _*_, _-_, _^_, _≤_, _<_}
+use Prim.Native.Nat.{ℕ, _+_, _*_, _-_, _<_}
 use native.Mathlib.Omega.{arith}
-use lib.ListN.{length, take, drop, length-append}
+use lib.ListN.{length, drop, length-append}
 use lib.Seq.{take-at}
 use lib.IntN.{ℤ}
 use borrow.Author.Tests.{le-leb, lt-ltb}
 use Rattle.base.specs.Answer.{Answer, refused, answer}
 use Rattle.base.specs.Columns.{at}
-use Rattle.base.specs.Fold.{among}
 use Rattle.base.specs.Limits.{fewestVertices, vertexLimit, edgeLimit, verticesOk}
 use Rattle.base.proofs.Answers.{refuses, fits, short}
 use Rattle.base.proofs.Bools.{no-answer, and-both}
 use Rattle.base.proofs.Sums.{tabulate-at}
-use Rattle.departures.specs.Departures.{FIRST-STEP, Departure, keeps, departure}
+use Rattle.departures.specs.Departures.{FIRST-STEP, departure}
 use Rattle.departures.specs.Columns.{ruleColumn, stepColumn}
 use Rattle.departures.specs.Explained.{Explained}
 use Rattle.departures.proofs.Retiring.{steps-counted}
@@ -24,9 +23,7 @@ use Rattle.departures.proofs.Leaving.{steps-within}
 use Rattle.departures.proofs.Explaining.{explained, rules-few}
 use Rattle.frame.specs.Table.{COSTS, REASON, lineLength, startOf, placeOf, bytesOf, padded, total}
 use Rattle.frame.specs.Line.{isLine}
-use Rattle.graph.specs.Chain.{ByRules}
 use Rattle.graph.specs.declared.Network.{Network}
-use Rattle.graph.specs.declared.Step.{Step}
 use Rattle.kept_text.specs.Text.{keptEdges, keptText, costsText}
 use Rattle.kept_text.proofs.Texts.{lists-kept, length-costs}
 use Rattle.list_text.specs.Text.{readList, listText}
@@ -41,7 +38,7 @@ use Rattle.claim.specs.Condition.{Accepted, Ruled}
 use Rattle.claim.proofs.Accepting.{accepted-whole, accepted-running, running-few, chain-network-refused, chain-kept}
 use Rattle.claim.proofs.Accepting.{chain-refused as check-refused}
 use Rattle.claim.proofs.ChainTexts.{steps-found}
-use Rattle.claim.proofs.Condition.{claim, keeps-ruled, ruled-keeps}
+use Rattle.claim.proofs.Condition.{claim, keeps-ruled}
 use Rattle.reasons.specs.Services.{reasonsOf, chainReasons}
 use Rattle.reasons.specs.Condition.{frameLength, saidIn, listPart, SameKept, ReasonsClaim}
 use Rattle.reasons.proofs.Answering.{network-refused, chain-refused, chain-answered}

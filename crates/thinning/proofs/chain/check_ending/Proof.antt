@@ -1,11 +1,10 @@
 -- `thinning::chain::check_ending` meets its contract.
 use mathlib.Core.Path.{_≡_, sym, _∙_, ap}
 use mathlib.Core.List.{List}
-use Prim.Native.Nat.{ℕ, _<_}
+use Prim.Native.Nat.{ℕ}
 use native.Mathlib.Omega.{arith}
 use borrow.Author.Needs.{needs}
 use lib.ListN.{drop, length-drop}
-use Rattle.base.specs.Limits.{edgeLimit}
 use Rattle.departures.specs.Columns.{endingNoted}
 use Rattle.frame.specs.Table.{DROPPED}
 use Rattle.frame.specs.Kinds.{droppedOf}
