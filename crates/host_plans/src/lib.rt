@@ -1,10 +1,12 @@
-// The library for C, plans: network check, planner, candidates, chain check and tables, with 0 or a refusal's number as
-// result.
+// The library for C, plans: network check, planner, candidates, chain check, reasons and tables, with 0 or a refusal's
+// number as result.
+mod explaining;
 mod networks;
 mod plans;
 mod reserving;
 mod solver;
 
+pub use explaining::thinning_reasons;
 pub use networks::thinning_check_network;
 pub use plans::thinning_check_chain;
 pub use plans::thinning_plan;
