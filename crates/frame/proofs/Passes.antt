@@ -30,7 +30,7 @@ module _ (row k : ℕ) (line : List ℕ) where
 
 -- a field that was put into the part from its start to its end
 pub field-put : (row k number start end : ℕ) (out part : List ℕ) → row < rows → k < fields
-    → startOf row fields ≤ length out
+    → end ≤ length out
     → start ≡ startOf row k → end ≡ startOf row (k + 1)
     → part ≡ spell (length (take (end - start) (drop start out))) number []
     → drop (startOf row k) (putMid start (end - start) out part)

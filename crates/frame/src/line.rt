@@ -77,14 +77,14 @@ fn read_field(line: &[u8], entries: u64, field: usize, values: &[u8; BYTE_VALUES
     read_number(&line[start..end], values)
 }
 
-// Spells a number at the place of a field, and keeps what stands behind the field.
-fn put_field(out: &mut [u8], row: usize, field: usize, number: u64)
-    requires { ⌜ (row < rows) × (field < fields) × (startOf row fields ≤ length (now out)) ⌝ }
-    ensures { λ r. ⌜ drop (startOf row field) (now (out .exit)) ≡
-        spell (digitsOf row field) number (drop (startOf row (field + 1)) (now (out .entry))) ⌝ }
+// Spells a number at the place of a field, by the entries of its row, and keeps what stands behind the field.
+fn put_field(out: &mut [u8], entries: u64, field: usize, number: u64)
+    requires { ⌜ HasFields entries (now out) × (field < fields) ⌝ }
+    ensures { λ r. ⌜ ((row : ℕ) → row < rows → entries ≡ entriesOf row → drop (startOf row field) (now (out .exit)) ≡
+        spell (digitsOf row field) number (drop (startOf row (field + 1)) (now (out .entry)))) ⌝ }
 {
-    let from = start_of(row, field);
-    let to = start_of(row, field + 1);
+    let from = start_in(entries, field);
+    let to = start_in(entries, field + 1);
     put_number(&mut out[from..to], number)
 }
 
@@ -146,12 +146,13 @@ pub fn put_line(out: &mut [u8], row: usize, f: Fields) -> usize
     ensures { λ r. ⌜ (r ≡ lineLength row) × (now (out .exit) ≡ over (lineOf row f) (now (out .entry))) ⌝ }
 {
     let numbers = f.numbers();
+    let entries = entries_of(row);
     let end = start_of(row, FIELDS);
     out[end] = LINE_FEED;
     let mut k = FIELDS;
     while 0 < k {
         k -= 1;
-        put_field(out, row, k, numbers[k]);
+        put_field(out, entries, k, numbers[k]);
     }
     put_number(&mut out[..KIND_DIGITS], kind_of(row));
     end + 1
