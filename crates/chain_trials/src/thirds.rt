@@ -1,9 +1,10 @@
 // Chains on T whose z, or whose cost of z, is not what the step gives.
 use super::chain;
+use super::with_reasons;
 
 // Other cables for z: 4 is x, 5 is y, 0 is reserved, and there is no cable 6.
 fn other_cables(text: &[u8]) {
-    chain(
+    with_reasons(
         b"z 2",
         text,
         b"030001000400050002fffffffffffffffe\n040003\n",
@@ -32,7 +33,7 @@ fn other_cables(text: &[u8]) {
 
 // Other costs for z, which gets 4 - 6: on both sides, and of the other sign.
 fn near_costs(text: &[u8]) {
-    chain(
+    with_reasons(
         b"cost -1",
         text,
         b"030001000400050001ffffffffffffffff\n040003\n",
