@@ -1,4 +1,4 @@
-// What puts each cable in or out: of two more districts, in short buffers, and over each network that is refused.
+// What puts each cable in or out: in two more districts, into short buffers, and over a network for each refusal.
 use super::refused;
 use super::say;
 use base::Reply;
@@ -57,52 +57,40 @@ fn rooms(text: &[u8]) {
     reasons_of(b"no chain, in no room", text, b"", 0);
 }
 
-// Networks that are refused before the chain is looked at, which is none, and before the room, of which there is none.
-fn networks() {
-    reasons_of(b"reasons over no network", b"", b"", 0);
-    reasons_of(b"reasons of one cabinet", b"0100010000\n", b"", 0);
-    reasons_of(
-        b"reasons with cable 6 of T reserved",
-        b"0100030006\n",
-        b"",
-        0,
-    );
-    reasons_of(
-        b"reasons with a cable from 1 to 0",
-        b"0100020000\n020000000100000000000000000001\n",
-        b"",
-        0,
-    );
-    reasons_of(
-        b"reasons with cost 1,000,000,000,001",
-        b"0100020000\n02000000000001000000e8d4a51001\n",
-        b"",
-        0,
-    );
+// Says what a network is, and how no chain over it is answered where there is no room.
+fn over(what: &[u8], text: &[u8]) {
+    reasons_of(what, text, b"", 0);
 }
 
-// The same for networks that read: one with a wrong degree, and one with a cut of two.
-fn designs() {
-    reasons_of(
+// A network for each of its refusals, which come before those of the chain and the room.
+fn networks() {
+    over(b"reasons over no network", b"");
+    over(b"reasons of one cabinet", b"0100010000\n");
+    over(b"reasons with cable 6 of T reserved", b"0100030006\n");
+    over(
+        b"reasons with a cable from 1 to 0",
+        b"0100020000\n020000000100000000000000000001\n",
+    );
+    over(
+        b"reasons with cost 1,000,000,000,001",
+        b"0100020000\n02000000000001000000e8d4a51001\n",
+    );
+    over(
         b"reasons with 0-1 three times, 0-2 twice, 1-2",
         b"0100030000\n020000000000010000000000000001\n020001000000010000000000000001\n020002000000010000000000000001\n\
             020003000000020000000000000001\n020004000000020000000000000001\n020005000100020000000000000001\n",
-        b"",
-        0,
     );
-    reasons_of(
+    over(
         b"reasons with 0-1 three times, 2-3 three times, 0-2, 1-3",
         b"0100040000\n020000000000010000000000000001\n020001000000010000000000000001\n020002000000010000000000000001\n\
             020003000200030000000000000001\n020004000200030000000000000001\n020005000200030000000000000001\n\
             020006000000020000000000000001\n020007000100030000000000000001\n",
-        b"",
-        0,
     );
 }
 
+// The districts, the rooms over T, and the networks.
 pub fn run(text: &[u8]) {
     districts();
     rooms(text);
     networks();
-    designs();
 }
