@@ -11,7 +11,6 @@ pub use lengths::LONGEST_CHAIN;
 pub use lengths::LONGEST_KEPT;
 pub use lengths::LONGEST_NETWORK;
 pub use lengths::LONGEST_PAGE;
-pub use lengths::LONGEST_REASONS;
 pub use limits::COST_LIMIT;
 pub use limits::EDGE_LIMIT;
 pub use limits::FEWEST_VERTICES;

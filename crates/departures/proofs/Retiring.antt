@@ -42,14 +42,10 @@ module _ {g : Network} {t : Step} (sound : Sound g) (w : Stepped g t) where
   pub z-stays : live (after g t) (t .z) ≡ true
   z-stays = stays-live (t .z) (w .at .four .z<) z-live (λ q. w .at .four .xz (sym q)) (λ q. w .at .four .yz (sym q))
 
--- the numbers of edges are those of the network before a step, and the reserved edge too
+-- the edges are those of the network before a step
 pub edges-stay : (g : Network) (t : Step) → after g t .edges ≡ g .edges
 unfolding after split
 edges-stay g t = refl
-
-pub reserved-stays : (g : Network) (t : Step) → after g t .reserved ≡ g .reserved
-unfolding after split
-reserved-stays g t = refl
 
 -- the edge that an ending drops was never retired
 pub dropped-live : {g : Network} {ts : List Step} {d : ℕ} → Sound g → ByRules g ts d → (d < g .edges) × (live g d ≡ true)
