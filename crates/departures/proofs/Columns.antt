@@ -19,7 +19,7 @@ use Rattle.graph.specs.State.{noMarks}
 use Rattle.graph.specs.Split.{after}
 use Rattle.graph.specs.declared.Network.{Network}
 use Rattle.graph.specs.declared.Step.{Step}
-use Rattle.departures.specs.Departures.{RESERVED-EDGE, KEPT-AS-Y, KEPT-LAST, DROPPED-LAST, Departure, keeps}
+use Rattle.departures.specs.Departures.{KEPT-AS-Y, Departure, keeps}
 use Rattle.departures.specs.Departures.{ruleOfX, departureFrom}
 use Rattle.departures.specs.Columns.{ruleColumn, stepColumn, allLast, noSteps, endingNoted, rulesBack, stepsBack}
 use Rattle.departures.specs.Columns.{keptBy}
@@ -49,14 +49,19 @@ module _ {A : Type 0} (n : ℕ) where
   tabulate-same a =
       tabulate-is n (λ e. a) a (replicate n a) (length-replicate n a) (λ e l. getD-replicate n e a a l)
 
+  -- two stores to it
+  two-stored : (a : A) (i j : ℕ) (b c : A)
+      → set (set (replicate n a) i b) j c ≡ tabulate n (λ e. cond (eqb e j) c (cond (eqb e i) b a))
+  two-stored a i j b c =
+      ap (λ l. set (set l i b) j c) (tabulate-same a)
+      ∙ ap (λ l. set l j c) (tabulate-set (λ e. a) i b)
+      ∙ tabulate-set (λ e. cond (eqb e i) b a) j c
+
 -- ── the ending ──
 module _ (k : ℕ) (g : Network) (d : ℕ) where
   pub rules-ended : endingNoted (g .reserved) d allLast ≡ ruleColumn k g [] d
   unfolding ruleColumn departureFrom
-  rules-ended =
-      ap (endingNoted (g .reserved) d) (tabulate-same edgeLimit KEPT-LAST)
-      ∙ ap (λ l. set l (g .reserved) RESERVED-EDGE) (tabulate-set edgeLimit (λ e. KEPT-LAST) d DROPPED-LAST)
-      ∙ tabulate-set edgeLimit (λ e. cond (eqb e d) DROPPED-LAST KEPT-LAST) (g .reserved) RESERVED-EDGE
+  rules-ended = two-stored edgeLimit _ d (g .reserved) _ _
 
   pub steps-ended : noSteps ≡ stepColumn k g [] d
   unfolding stepColumn departureFrom
