@@ -1,4 +1,6 @@
 // The audit of a list of edges: which vertices it joins, and how many of its edges are bridges.
+#![tactic(auto)]
+
 ghost use Rattle.std.specs.Prelude.{◌≡◌};
 ghost use Rattle.connection.specs.Searchable.{Searchable};
 ghost use Rattle.audit.specs.Answers.{audited};
@@ -13,7 +15,7 @@ mod service;
 pub use service::{Audited, audit_list};
 
 // The answers for a list of edges.
-#[derive(Drop)]
+#[derive(Clone, Copy)]
 pub struct Answers {
     // Whether the listed edges join all vertices.
     pub connected: bool,

@@ -6,7 +6,7 @@ use super::{Answers, audit};
 use loading::load_list;
 
 // What the audit service answers.
-#[derive(Drop)]
+#[derive(Clone, Copy)]
 pub enum Audited {
     Answered(Answers),
     Refused(u8),

@@ -1,4 +1,6 @@
 // What every crate stands on: replies, refusals by their numbers, the limits of a network and of its texts, columns.
+#![tactic(auto)]
+
 mod column;
 mod lengths;
 mod limits;

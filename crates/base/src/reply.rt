@@ -1,7 +1,7 @@
 // What a service replies that fills one buffer.
 
 // A refusal's number, or how many elements were written.
-#[derive(Drop)]
+#[derive(Clone, Copy)]
 pub enum Reply {
     Refused(u8),
     Done(usize),

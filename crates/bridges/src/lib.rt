@@ -1,4 +1,6 @@
 // Bridges of a list of edges (document 02: critical cables), counted by one depth-first search.
+#![tactic(auto)]
+
 ghost use Rattle.std.specs.Prelude.{◌≡◌};
 ghost use Rattle.connection.specs.Searchable.{Searchable};
 ghost use Rattle.connection.specs.Incidence.{incidence};

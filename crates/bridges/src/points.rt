@@ -11,7 +11,7 @@ use base::VERTEX_LIMIT;
 use forest::NO_PLACE;
 
 // The places of an edge's ends: the earlier one, and the later one.
-#[derive(Drop)]
+#[derive(Clone, Copy)]
 struct Span {
     upper: u16,
     lower: u16,

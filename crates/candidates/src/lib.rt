@@ -1,4 +1,6 @@
 // One network planned for many candidates for its reserved edge: the costs of each plan.
+#![tactic(auto)]
+
 ghost use Rattle.std.specs.Prelude.{◌≡◌, length};
 ghost use Rattle.base.specs.Answer.{over, reply_of, after};
 ghost use Rattle.claim.specs.Condition.{reserving};

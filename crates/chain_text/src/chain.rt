@@ -13,14 +13,14 @@ use base::{
 use frame::{DROPPED, Dropped, Line, STEP, Step, length_of, put_line, read_line};
 
 // What a reader of chain texts replies: how many steps a chain has and the edge that its ending drops, or a refusal.
-#[derive(Drop)]
+#[derive(Clone, Copy)]
 pub enum ReadChain {
     Refused(u8),
     Read { steps: usize, dropped: u16 },
 }
 
 // What stands at the place of an ending: the edge that it drops, or no ending, or one with something behind it.
-#[derive(Drop)]
+#[derive(Clone, Copy)]
 enum ReadEnding {
     Drops(u16),
     Refused,

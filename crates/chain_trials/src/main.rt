@@ -1,5 +1,7 @@
 // Runs the chain check and the reasons service on chains over document 01's districts, right ones and a wrong one for
 // each refusal, and reads a chain text into columns.
+#![tactic(auto)]
+
 use base::{LONGEST_KEPT, Reply};
 use explained::reasons_of;
 use libc::STDOUT_FILENO;

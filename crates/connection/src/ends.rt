@@ -16,7 +16,7 @@ pub const END_LIMIT: usize = 2 * EDGE_LIMIT;
 
 const NO_END: u16 = END_LIMIT as u16;
 
-#[derive(Drop)]
+#[derive(Clone, Copy)]
 pub struct Incidence {
     // The first end at each vertex.
     pub first: [u16; VERTEX_LIMIT],

@@ -1,4 +1,6 @@
 // Connection by listed edges: how many vertices they join to a start vertex, and whether they join all.
+#![tactic(auto)]
+
 ghost use Rattle.std.specs.Prelude.{◌≡◌, ◌<◌, length};
 ghost use Rattle.base.specs.Limits.{vertex_limit};
 ghost use Rattle.graph.specs.declared.Network.{Network};

@@ -11,7 +11,7 @@ use crate::words::WORDS;
 use base::VERTEX_LIMIT;
 
 // The vertices that a search has reached.
-#[derive(Drop)]
+#[derive(Clone, Copy)]
 pub struct Reached {
     pub words: [u64; WORDS],
 }

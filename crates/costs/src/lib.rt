@@ -1,4 +1,6 @@
 // The costs of sets of edges.
+#![tactic(auto)]
+
 ghost use Rattle.std.specs.Prelude.{◌≡◌, ◌^◌, ◌≤◌, ◌<◌, nat_abs, ◌+ℤ◌};
 ghost use Rattle.graph.specs.Network.{kept_cost, all_but_reserved};
 ghost use Rattle.graph.specs.Sound.{Light};

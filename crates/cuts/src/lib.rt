@@ -1,4 +1,6 @@
 // Whether every cut of a network is crossed by at least four edges, and whether a partner is admissible.
+#![tactic(auto)]
+
 ghost use Rattle.std.specs.Prelude.{◌≤◌, length, ◌≡◌};
 ghost use Rattle.graph.specs.Cut.{every_cut};
 ghost use Rattle.graph.specs.Sound.{Formed};

@@ -1,4 +1,6 @@
 // Numbers printed in base ten: right-aligned, with spaces before them.
+#![tactic(auto)]
+
 ghost use Rattle.std.specs.Prelude.{◌≡◌, true, ◌++◌, ◌+◌, ◌≤◌, nat_abs, length, take, replicate};
 ghost use Rattle.decimal.specs.BaseTen.{space, digits, aligned, fits};
 

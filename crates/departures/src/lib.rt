@@ -1,4 +1,6 @@
 // How each edge leaves the network of a chain: by which rule, and at which step; noted while a chain is gone back through.
+#![tactic(auto)]
+
 ghost use Rattle.std.specs.Prelude.{◌≡◌, ◌≤◌, ◌<◌};
 ghost use Rattle.base.specs.Limits.{edge_limit};
 ghost use Rattle.graph.specs.State.{no_marks};

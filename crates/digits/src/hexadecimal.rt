@@ -8,7 +8,7 @@ const BASE: u64 = 16;
 pub const BYTE_VALUES: usize = 256;
 
 // The number that digits spell, or that a byte among them is no digit.
-#[derive(Drop)]
+#[derive(Clone, Copy)]
 pub enum Number {
     Spelt(u64),
     Broken,

@@ -1,4 +1,6 @@
 // Numbers as hexadecimal digits, and signed ones as two's complement.
+#![tactic(auto)]
+
 mod hexadecimal;
 mod sign;
 

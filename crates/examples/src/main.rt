@@ -1,4 +1,6 @@
 // Runs what document 01's district examples say of ports, partners, steps and going back.
+#![tactic(auto)]
+
 mod districts;
 mod ports;
 mod print;

@@ -1,4 +1,6 @@
 // Four edge-disjoint paths between two vertices and two others, by searches along arcs.
+#![tactic(auto)]
+
 ghost use Rattle.std.specs.Prelude.{true, ◌↔◌, ◌≡◌};
 ghost use Rattle.graph.specs.Sound.{Formed};
 ghost use Rattle.flow.specs.Apart.{FourApart};
@@ -17,7 +19,7 @@ pub use arcs::{gather, lay, wire};
 pub use paths::four_paths;
 
 // Two vertices, perhaps the same one.
-#[derive(Drop)]
+#[derive(Clone, Copy)]
 pub struct Pair {
     pub first: u8,
     pub second: u8,

@@ -8,7 +8,7 @@ use base::VERTEX_LIMIT;
 use ports::PORT_LIMIT;
 
 // What a search finds: the vertex that it looked for, if any.
-#[derive(Drop)]
+#[derive(Clone, Copy)]
 pub enum Found {
     At(usize),
     Nothing,

@@ -9,7 +9,7 @@ use base::VERTEX_LIMIT;
 use ports::{PORT_LIMIT, PORTS};
 
 // What trying ports comes to: a vertex that another search has reached, or the last number given.
-#[derive(Drop)]
+#[derive(Clone, Copy)]
 pub enum Visited {
     Met(usize),
     On(usize),

@@ -8,7 +8,7 @@ use crate::arcs::{ARC_LIMIT, PORTS};
 use base::EDGE_LIMIT;
 
 // What a search finds: the sink that it reached, if any.
-#[derive(Drop)]
+#[derive(Clone, Copy)]
 pub enum Found {
     Sink(usize),
     Nothing,

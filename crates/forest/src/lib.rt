@@ -1,4 +1,6 @@
 // A depth-first forest of the listed edges: each listed edge joins a vertex to one of its ancestors or descendants.
+#![tactic(auto)]
+
 ghost use Rattle.std.specs.Prelude.{Bool, List, ◌≡◌};
 ghost use Rattle.connection.specs.Searchable.{Searchable};
 ghost use Rattle.connection.specs.Incidence.{incidence};
@@ -16,7 +18,7 @@ pub const NO_PLACE: u16 = VERTEX_LIMIT as u16;
 const NO_EDGE: u16 = EDGE_LIMIT as u16;
 
 // Vertices have places in the order in which the search meets them.
-#[derive(Drop)]
+#[derive(Clone, Copy)]
 pub struct Forest {
     // The place of each vertex.
     pub number: [u16; VERTEX_LIMIT],

@@ -12,7 +12,7 @@ use base::VERTEX_LIMIT;
 use connection::END_LIMIT;
 
 // Where the search goes on, and how many places there are.
-#[derive(Drop)]
+#[derive(Clone, Copy)]
 struct Turn {
     place: usize,
     count: usize,

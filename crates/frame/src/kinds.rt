@@ -12,14 +12,14 @@ use super::table::{COSTS, EDGE, SPAN, STEP, digits_of};
 use digits::{signed_of, unsigned_of};
 
 // Kind 01: how many vertices a network has, and its reserved edge.
-#[derive(Drop)]
+#[derive(Clone, Copy)]
 pub struct Head {
     pub vertices: u64,
     pub reserved: u64,
 }
 
 // Kind 02: an edge, its two ends and its cost.
-#[derive(Drop)]
+#[derive(Clone, Copy)]
 pub struct Edge {
     pub number: u64,
     pub lower: u64,
@@ -28,7 +28,7 @@ pub struct Edge {
 }
 
 // Kind 03: a step, at v with x and y; z, and z's new cost.
-#[derive(Drop)]
+#[derive(Clone, Copy)]
 pub struct Step {
     pub v: u64,
     pub x: u64,
@@ -38,26 +38,26 @@ pub struct Step {
 }
 
 // Kind 04: the edge that the ending drops.
-#[derive(Drop)]
+#[derive(Clone, Copy)]
 pub struct Dropped {
     pub edge: u64,
 }
 
 // Kind 05: a kept edge.
-#[derive(Drop)]
+#[derive(Clone, Copy)]
 pub struct Kept {
     pub edge: u64,
 }
 
 // Kind 06: the cost of the kept edges, and of all edges but the reserved one.
-#[derive(Drop)]
+#[derive(Clone, Copy)]
 pub struct Costs {
     pub kept: i64,
     pub unreserved: i64,
 }
 
 // Kind 08: how many vertices a table's network has, its reserved edge, and how many spans the table has.
-#[derive(Drop)]
+#[derive(Clone, Copy)]
 pub struct TableHead {
     pub vertices: u64,
     pub reserved: u64,
@@ -65,7 +65,7 @@ pub struct TableHead {
 }
 
 // Kind 09: a span, its two ends, its doubled weight and its cost.
-#[derive(Drop)]
+#[derive(Clone, Copy)]
 pub struct Span {
     pub lower: u64,
     pub higher: u64,
@@ -74,7 +74,7 @@ pub struct Span {
 }
 
 // Kind 0a: an edge, the rule by which it stayed or left, and the step.
-#[derive(Drop)]
+#[derive(Clone, Copy)]
 pub struct Reason {
     pub edge: u64,
     pub rule: u64,
@@ -82,7 +82,7 @@ pub struct Reason {
 }
 
 // Kind 0f: a refusal.
-#[derive(Drop)]
+#[derive(Clone, Copy)]
 pub struct Refusal {
     pub number: u64,
 }

@@ -1,4 +1,6 @@
 // Frames as lines of hexadecimal digits: one table for reader and writer, frames with named fields.
+#![tactic(auto)]
+
 mod kinds;
 mod line;
 mod table;

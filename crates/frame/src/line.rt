@@ -14,7 +14,7 @@ pub const LINE_FEED: u8 = 10;
 const KIND_DIGITS: usize = 2;
 
 // The fields of a frame, as they are spelt, in the table's order; an absent one is 0.
-#[derive(Drop)]
+#[derive(Clone, Copy)]
 pub struct Fields {
     pub first: u64,
     pub second: u64,
@@ -52,7 +52,7 @@ impl Fields {
 }
 
 // What stands at a place of a text: a frame and the place behind its line, or a refusal.
-#[derive(Drop)]
+#[derive(Clone, Copy)]
 pub enum Line {
     Frame(Fields, usize),
     Refused,

@@ -6,7 +6,7 @@ ghost use Rattle.base.specs.Limits.{edge_limit};
 use base::EDGE_LIMIT;
 
 // A mark for each edge: whether it is kept.
-#[derive(Drop)]
+#[derive(Clone, Copy)]
 pub struct Kept {
     pub marks: [bool; EDGE_LIMIT],
 }

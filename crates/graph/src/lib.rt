@@ -1,4 +1,6 @@
 // The state of a network, and what a step does to it.
+#![tactic(auto)]
+
 use base::{EDGE_LIMIT, VERTEX_LIMIT};
 
 mod kept;
@@ -14,7 +16,7 @@ pub use kept::{Kept, lift_marks};
 
 // A network by value: edge e joins low[e] and high[e] at a working cost.
 // A retired edge is a loop at the vertex that left, at cost 0, so it crosses no cut and costs nothing.
-#[derive(Drop)]
+#[derive(Clone, Copy)]
 pub struct Network {
     pub low: [u8; EDGE_LIMIT],
     pub high: [u8; EDGE_LIMIT],
@@ -27,7 +29,7 @@ pub struct Network {
 }
 
 // A step of a chain: v leaves, x and y retire, and z, the third partner, has this cost afterwards.
-#[derive(Drop)]
+#[derive(Clone, Copy)]
 pub struct Step {
     pub v: usize,
     pub x: usize,

@@ -1,4 +1,6 @@
 // The library for C, lists over a network: a list is audited and printed, with 0 or a refusal's number as result.
+#![tactic(auto)]
+
 mod audits;
 mod pages;
 

@@ -1,5 +1,7 @@
 // The library for C, plans: network check, planner, candidates, chain check, reasons and tables, with 0 or a refusal's
 // number as result.
+#![tactic(auto)]
+
 mod explaining;
 mod networks;
 mod plans;

@@ -1,4 +1,6 @@
 // The library for C, texts: network, chain and list texts are read and written, with 0 or a refusal's number as result.
+#![tactic(auto)]
+
 mod chains;
 mod lists;
 mod networks;

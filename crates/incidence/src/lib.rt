@@ -1,4 +1,6 @@
 // What is at the vertices of a network: their degrees, and the partners at an end of the reserved edge.
+#![tactic(auto)]
+
 mod degrees;
 mod partners;
 

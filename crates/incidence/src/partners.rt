@@ -9,7 +9,7 @@ use base::EDGE_LIMIT;
 use graph::Network;
 
 // How many partners a vertex has, and the first three, 0 for each that there is not.
-#[derive(Drop)]
+#[derive(Clone, Copy)]
 pub struct Partners {
     pub count: usize,
     pub first: usize,

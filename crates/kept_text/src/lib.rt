@@ -1,4 +1,6 @@
 // Kept texts and the refusal line: written from their meanings.
+#![tactic(auto)]
+
 ghost use Rattle.std.specs.Prelude.{◌≡◌, ◌≤◌, length};
 ghost use Rattle.base.specs.Answer.{answer, over, reply_of, after};
 ghost use Rattle.base.specs.Limits.{edge_limit};

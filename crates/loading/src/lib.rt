@@ -1,4 +1,6 @@
 // A network text read into the state.
+#![tactic(auto)]
+
 ghost use Rattle.std.specs.Prelude.{◌≡◌, ◌≤◌, ltb, length};
 ghost use Rattle.base.specs.Answer.{refused};
 ghost use Rattle.base.specs.Fold.{tabulate};
@@ -17,7 +19,7 @@ pub use list::{LoadedList, load_list};
 pub use pass::{Pass, one_pass};
 
 // A refusal's number and no network, or 0 and the network; and the degree of each vertex.
-#[derive(Drop)]
+#[derive(Clone, Copy)]
 pub struct Loaded {
     pub refusal: u8,
     pub network: Network,

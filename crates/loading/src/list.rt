@@ -9,7 +9,7 @@ use graph::Network;
 use list_text::read_list;
 
 // A refusal's number, no network and no marks, or 0, the network and whether each edge is listed.
-#[derive(Drop)]
+#[derive(Clone, Copy)]
 pub struct LoadedList {
     pub refusal: u8,
     pub network: Network,

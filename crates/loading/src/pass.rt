@@ -12,7 +12,7 @@ use network_frames::{ReadEdge, ReadHead, read_edge, read_head};
 
 // A refusal's number and the place of what is refused, or 0 and the text's end; how many edges
 // were read before it, the network with these edges, and how many of them are at each vertex.
-#[derive(Drop)]
+#[derive(Clone, Copy)]
 pub struct Pass {
     pub refusal: u8,
     pub place: usize,

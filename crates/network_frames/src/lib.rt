@@ -1,4 +1,6 @@
 // The frames of a network text, read one by one: its head, and the edge at a place.
+#![tactic(auto)]
+
 ghost use Rattle.std.specs.Prelude.{◌≡◌};
 ghost use Rattle.base.specs.Answer.{refusal_of};
 ghost use Rattle.network_frames.specs.Frames.{head_refusal, edge_refusal, head_answer, edge_answer};
@@ -8,14 +10,14 @@ use base::{COST, ENDS, FORM, RESERVED, VERTICES, cost_ok, vertices_ok};
 use frame::{EDGE, Edge, HEAD, Head, Line, read_line};
 
 // What a text starts with: a head and the place behind its line, or a refusal's number.
-#[derive(Drop)]
+#[derive(Clone, Copy)]
 pub enum ReadHead {
     Read(Head, usize),
     Refused(u8),
 }
 
 // What stands at a place of a text: an edge and the place behind its line, or a refusal's number.
-#[derive(Drop)]
+#[derive(Clone, Copy)]
 pub enum ReadEdge {
     Read(Edge, usize),
     Refused(u8),

@@ -11,7 +11,7 @@ use frame::{EDGE, Edge, HEAD, Head, length_of, put_line};
 use network_frames::{ReadEdge, ReadHead, edge_refusal, head_refusal, read_edge, read_head};
 
 // What reading a network text answers: what its head says, or a refusal's number. Its edges go into columns.
-#[derive(Drop)]
+#[derive(Clone, Copy)]
 pub enum ReadNetwork {
     Read { vertices: usize, reserved: usize },
     Refused(u8),

@@ -1,4 +1,6 @@
 // A page for the site binder: a line for each edge of a list over a network text, and the sum of their costs.
+#![tactic(auto)]
+
 mod lines;
 
 ghost use Rattle.std.specs.Prelude.{◌≡◌};

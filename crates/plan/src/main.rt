@@ -1,4 +1,6 @@
 // The plan program: reads a network text, and writes its chain text and kept text, or one refusal line.
+#![tactic(auto)]
+
 ghost use Rattle.std.specs.Prelude.{◌≡◌, ◌+◌, ◌≤◌, length};
 ghost use Rattle.io.specs.Counts.{IsPrefixLen};
 ghost use Rattle.base.specs.Answer.{filled};

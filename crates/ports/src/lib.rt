@@ -1,4 +1,6 @@
 // The ports of a network's vertices, four each: which edge is plugged in at each port, and where its other end is.
+#![tactic(auto)]
+
 use base::VERTEX_LIMIT;
 
 mod split;

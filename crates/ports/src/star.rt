@@ -7,7 +7,7 @@ ghost use Rattle.ports.specs.Stars.{Around, Trio, HasEdge};
 use super::{PORT_LIMIT, PORTS};
 
 // A port, and the three others of its vertex by rising edges.
-#[derive(Drop)]
+#[derive(Clone, Copy)]
 pub struct Star {
     pub reserved: usize,
     pub first: usize,

@@ -9,7 +9,7 @@ use base::VERTEX_LIMIT;
 use graph::Network;
 
 // The port where the other end of its edge is, and its edge, for each port.
-#[derive(Drop)]
+#[derive(Clone, Copy)]
 pub struct Ports {
     pub mate: [u16; PORT_LIMIT],
     pub edge: [u16; PORT_LIMIT],

@@ -1,4 +1,6 @@
 // The service behind the reason beside each cable: how each edge leaves in a chain that passes.
+#![tactic(auto)]
+
 ghost use Rattle.std.specs.Prelude.{◌≡◌};
 ghost use Rattle.base.specs.Answer.{reply_of, after};
 ghost use Rattle.reasons.specs.Services.{chain_reasons};

@@ -1,4 +1,6 @@
 // Reasons texts, written from a column of rules and a column of steps.
+#![tactic(auto)]
+
 ghost use Rattle.std.specs.Prelude.{◌≡◌, ◌≤◌, length};
 ghost use Rattle.base.specs.Answer.{answer, over, reply_of, after};
 ghost use Rattle.base.specs.Limits.{edge_limit};

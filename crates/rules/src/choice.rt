@@ -10,7 +10,7 @@ use graph::{Network, Step};
 use incidence::partners_at;
 
 // Two partners at v, the lower number first, and the third, z.
-#[derive(Drop)]
+#[derive(Clone, Copy)]
 pub struct Pair {
     pub v: u8,
     pub low: usize,

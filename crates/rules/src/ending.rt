@@ -13,7 +13,7 @@ use graph::Network;
 use incidence::{Partners, partners_at};
 
 // The edge that an ending drops and the two that it keeps.
-#[derive(Drop)]
+#[derive(Clone, Copy)]
 pub struct Drop {
     pub dropped: usize,
     pub low: usize,

@@ -1,4 +1,6 @@
 // The rules over a network: judging a step and an ending, and the planner.
+#![tactic(auto)]
+
 mod choice;
 mod ending;
 mod judge;

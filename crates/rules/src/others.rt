@@ -9,7 +9,7 @@ use graph::Network;
 use incidence::Partners;
 
 // The two of three edges that are not a given one, in rising order.
-#[derive(Drop)]
+#[derive(Clone, Copy)]
 pub enum Others {
     Two(usize, usize),
     None,

@@ -16,14 +16,14 @@ const LEAST_WEIGHT: u64 = 1;
 pub const MOST_WEIGHT: u64 = 4;
 
 // What a text starts with: a table's head and the place behind its line, or a refusal's number.
-#[derive(Drop)]
+#[derive(Clone, Copy)]
 pub enum ReadTableHead {
     Read(TableHead, usize),
     Refused(u8),
 }
 
 // What stands at a place of a text: a span and the place behind its line, or a refusal's number.
-#[derive(Drop)]
+#[derive(Clone, Copy)]
 pub enum ReadSpan {
     Read(Span, usize),
     Refused(u8),

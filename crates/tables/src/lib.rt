@@ -1,4 +1,6 @@
 // The services over a solver's tables: check a table, plan it, write the network text that it stands for.
+#![tactic(auto)]
+
 ghost use Rattle.std.specs.Prelude.{◌≡◌};
 ghost use Rattle.base.specs.Answer.{reply_of, after};
 ghost use Rattle.loading.specs.Loading.{loaded_of};

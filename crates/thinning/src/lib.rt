@@ -1,4 +1,6 @@
 // The services: check a network, check a chain, plan. Those over a network that was loaded serve every kind of text.
+#![tactic(auto)]
+
 mod chain;
 mod checker;
 mod kept;

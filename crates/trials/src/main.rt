@@ -1,5 +1,7 @@
 // Runs the services but the chain check on the texts of document 01's district examples, and on a wrong text for each
 // refusal.
+#![tactic(auto)]
+
 use audit::{Audited, audit_list};
 use claim::Acceptance;
 use libc::STDOUT_FILENO;

@@ -1,0 +1,13 @@
+-- `base::column::copy` meets its contract.
+use Rattle.base.proofs.Filling.{copying-none, copying-next, copying-all}
+use Rattle.base.proofs.column.copy.Goals as goal
+
+pub loop-i-init : goal.loop-i-init
+loop-i-init c = copying-none
+
+pub loop-i-preserved : goal.loop-i-preserved
+loop-i-preserved c =
+    copying-next c.loop-i.invariant 0 c.loop-i-test.true c.requires.0 c.requires.1
+
+pub returns : goal.returns
+returns c = copying-all c.loop-i.invariant c.loop-i-test.false
