@@ -126,9 +126,9 @@ module _ (row : ℕ) where
 
   -- no other text has the meaning of a line, and what is read has room in it
   module _ (t : List ℕ) (e : is_line row t ≡ true) where
-    all_digits : all_digits (take (total (kind_digits ∷ widths row)) t) ≡ true
+    all-digits : all_digits (take (total (kind_digits ∷ widths row)) t) ≡ true
     unfolding total
-    all_digits = rw (start-end row) at (formed row t e).digits
+    all-digits = rw (start-end row) at (formed row t e).digits
 
     all-long : total (kind_digits ∷ widths row) ≤ length t
     unfolding total line_length
@@ -146,8 +146,8 @@ module _ (row : ℕ) where
         let z : FEED ∷ drop (start_of row fields + 1) t ≡ drop (total (kind_digits ∷ widths row)) t =
         rw (← start-end row, add-one, ← s.feed) (sym (drop-cons t (start_of row fields) 0 (omega (arith, s.long)))) in
         line_before (fields_of row t) (drop (start_of row fields + 1) t)
-        ∙ rw (z, read-list, ← s.kind) (values-back (kind_digits ∷ widths row) t all-long all_digits)
+        ∙ rw (z, read-list, ← s.kind) (values-back (kind_digits ∷ widths row) t all-long all-digits)
 
     pub line-fits : Fits row (fields_of row t)
     unfolding Fits total values_of
-    line-fits = rw read-list (values-fit (kind_digits ∷ widths row) t all-long all_digits).1
+    line-fits = rw read-list (values-fit (kind_digits ∷ widths row) t all-long all-digits).1

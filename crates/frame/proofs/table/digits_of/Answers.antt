@@ -1,0 +1,11 @@
+-- `frame::table::digits_of` meets its contract.
+-- Assumes nothing.
+use native.Mathlib.Omega.{arith}
+use Rattle.frame.proofs.Rows.{start-next}
+use Rattle.frame.proofs.table.digits_of.Goals as goal
+
+pub overflow_sub-result : goal.overflow_sub-result
+overflow_sub-result c = omega (arith, start-next c.args.row c.args.field)
+
+pub returns : goal.returns
+returns c = omega (arith, start-next c.args.row c.args.field)
