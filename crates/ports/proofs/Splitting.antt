@@ -12,7 +12,7 @@ use Rattle.graph.specs.declared.Network.{Network}
 use Rattle.graph.proofs.Splitting.{Place, at_reserved, at_x, at_y, at_z, beside, place}
 use Rattle.graph.proofs.Stars.{Runs, forward, backward, Star, reserved-ends, x-ends, y-ends, z-ends}
 use Rattle.graph.proofs.Stars.{split-low, split-high}
-use Rattle.ports.specs.Ports.{port_limit, vertex_of, far_vertex, Mated, Wired, WiredAs}
+use Rattle.ports.specs.Ports.{port_limit, vertex_of, far_vertex, Wired, WiredAs}
 use Rattle.ports.specs.Splitting.{rejoined, relabelled, split_mates, split_labels}
 use Rattle.ports.proofs.Joining.{changed, changed-first, changed-second, changed-other, Joinable, Meeting}
 use Rattle.ports.proofs.Joining.{joined-other, joined-wired, four-ports}

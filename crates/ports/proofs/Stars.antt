@@ -1,24 +1,24 @@
 -- The ports of an end of the reserved edge: beside that edge they have the three partners.
-use mathlib.Core.Bool.{Bool, true, false, not, ◌&&◌, ◌||◌, or-true, or-false}
+use mathlib.Core.Bool.{true, false, not, ◌&&◌, ◌||◌, or-true, or-false}
 use mathlib.Core.List.{List, [], ◌∷◌}
-use mathlib.Core.Logic.{◌≢◌, ◌⊎◌, inl, inr, ⊎_elim}
+use mathlib.Core.Logic.{◌≢◌, ⊎_elim}
 use mathlib.Core.Path.{◌≡◌, refl, sym, ◌∙◌, ap}
 use Prim.Native.Nat.{ℕ, ◌+◌, ◌%◌, ◌≤◌, ◌<◌}
 use native.Mathlib.Decide.{ℕ_discrete}
 use native.Mathlib.Omega.{arith}
 use lib.Dec.{eqb}
 use Rattle.base.specs.Columns.{at}
-use Rattle.base.specs.Fold.{pick, among}
+use Rattle.base.specs.Fold.{among}
 use Rattle.base.proofs.Bools.{never, same_test, and_left, and_right, eqb-self, eqb_no, eqb_is}
 use Rattle.base.proofs.Picks.{Rising, pick-ext, pick-rising}
-use Rattle.graph.specs.Network.{low_end, high_end, here, touches}
+use Rattle.graph.specs.Network.{here, touches}
 use Rattle.graph.specs.Sound.{Sound}
 use Rattle.graph.specs.Split.{is_partner, partners}
 use Rattle.graph.specs.declared.Network.{Network}
 use Rattle.graph.proofs.Partners.{another, no_loop, starts-at, touches_at, touches-ends}
 use Rattle.graph.proofs.Rules.{end-here}
 use Rattle.graph.proofs.Stars.{Runs, forward, backward}
-use Rattle.ports.specs.Ports.{ports_each, port_limit, vertex_of, far_vertex, WiredAs}
+use Rattle.ports.specs.Ports.{ports_each, vertex_of, far_vertex, WiredAs}
 use Rattle.ports.specs.Stars.{Trio, Around}
 use Rattle.ports.specs.declared.star.Star.{Star}
 use Rattle.ports.proofs.Joining.{same-edge}

@@ -1,8 +1,8 @@
 -- Wiring: the ports while a network's edges are plugged in one after the other.
-use mathlib.Core.Bool.{Bool, true, false, cond}
+use mathlib.Core.Bool.{cond}
 use mathlib.Core.List.{List}
-use mathlib.Core.Logic.{◌≢◌, ◌⊎◌, inl, inr, ⊎_elim}
-use mathlib.Core.Path.{◌≡◌, refl, sym, ◌∙◌, ap}
+use mathlib.Core.Logic.{◌≢◌, ◌⊎◌, inl, inr}
+use mathlib.Core.Path.{◌≡◌, sym, ◌∙◌, ap}
 use Prim.Native.Nat.{ℕ, ◌+◌, ◌*◌, ◌%◌, ◌≤◌, ◌<◌}
 use native.Mathlib.Decide.{ℕ_discrete}
 use native.Mathlib.Omega.{arith}
@@ -13,7 +13,7 @@ use lib.ListN.{length, replicate, length-replicate}
 use Rattle.base.specs.Columns.{at}
 use Rattle.base.specs.Fold.{fold, sum, bit}
 use Rattle.base.specs.Limits.{vertex_limit}
-use Rattle.base.proofs.Bools.{bit-low, eqb-self, eqb_no}
+use Rattle.base.proofs.Bools.{eqb-self, eqb_no}
 use Rattle.base.proofs.Sums.{fold_more, sum-ext, sum_zeros, sum-fewer, tabulate-length, tabulate-at}
 use Rattle.graph.specs.Network.{low_end, high_end, ends_at, degree}
 use Rattle.graph.specs.declared.Network.{Network}

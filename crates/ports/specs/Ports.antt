@@ -1,6 +1,6 @@
 -- The ports of a network's vertices (document 01: four ports, all wired). Port p is at vertex p / 4. A list `mate` has
 -- for each port the one where the other end of its edge is plugged in, and a list `edge` has that edge.
-use Rattle.std.specs.Prelude.{cond, List, ◌≢◌, ◌⊎◌, ◌≡◌, ℕ, ◌*◌, ◌/◌, ◌≤◌, ◌<◌, eqb, length, set}
+use Rattle.std.specs.Prelude.{List, ◌≢◌, ◌⊎◌, ◌≡◌, ℕ, ◌*◌, ◌/◌, ◌≤◌, ◌<◌, length, set}
 use Rattle.base.specs.Columns.{at}
 use Rattle.base.specs.Fold.{tabulate}
 use Rattle.base.specs.Limits.{vertex_limit}

@@ -1,5 +1,5 @@
 -- A port and the three others of its vertex.
-use Rattle.std.specs.Prelude.{List, ◌≢◌, ◌⊎◌, ◌≡◌, ℕ, ◌≤◌, ◌<◌}
+use Rattle.std.specs.Prelude.{List, ◌≢◌, ◌≡◌, ℕ, ◌≤◌, ◌<◌}
 use Rattle.base.specs.Columns.{at}
 use Rattle.ports.specs.Ports.{port_limit, vertex_of}
 use Rattle.ports.specs.declared.star.Star.{Star}
