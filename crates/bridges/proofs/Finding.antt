@@ -79,21 +79,21 @@ module _ (g : Network) (t : Forest) where
         low-end : low_end g e ≡ vertex i
         low-end = sym (vertex-placed (low_end g e) (w.low_below e l))
 
-        high_end : high_end g e ≡ vertex k
-        high_end = sym (vertex-placed (high_end g e) (w.high_below e l))
+        high-end : high_end g e ≡ vertex k
+        high-end = sym (vertex-placed (high_end g e) (w.high_below e l))
 
         go : (b : Bool) → ltb i k ≡ b → Spans e (cond b i k) (cond b k i)
         go true h = record {
           falls = omega (arith, ltb-true i k h);
           below = f.all (high_end g e) (w.high_below e l);
           inside = (f.related e l listed).1;
-          ends = inl (low-end, high_end);
+          ends = inl (low-end, high-end);
         }
         go false h = record {
           falls = ltb-false i k h;
           below = f.all (low_end g e) (w.low_below e l);
           inside = (f.related e l listed).0;
-          ends = inr (high_end, low-end);
+          ends = inr (high-end, low-end);
         }
 
     -- no other two places are those of its ends

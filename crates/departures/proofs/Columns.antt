@@ -94,9 +94,9 @@ module _ (k : ℕ) (g : Network) (t : Step) (ts : List Step) (d : ℕ) where
       (cond (eqb e t.x) (rule_of_x r) (later e).rule))) (tabulate-at edge_limit (λ e. (later e).rule) 0 t.z l)
       ∙ tabulate-ext edge_limit _ _ 0 (λ e. part_of (λ h. h.rule) (eqb e t.y) (eqb e t.x) _ _ _)
 
-  pub steps_back : steps_back t.x t.y k (step_column (suc k) (after g t) ts d) ≡ step_column k g (t ∷ ts) d
+  pub steps-back : steps_back t.x t.y k (step_column (suc k) (after g t) ts d) ≡ step_column k g (t ∷ ts) d
   unfolding step_column departure_from
-  steps_back =
+  steps-back =
       stored (λ h. h.step) k k
       ∙ tabulate-ext edge_limit _ _ 0 (λ e. part_of (λ h. h.step) (eqb e t.y) (eqb e t.x) _ _ _)
 

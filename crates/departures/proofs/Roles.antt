@@ -10,7 +10,7 @@ use lib.Dec.{eqb}
 use lib.ListN.{length}
 use Rattle.base.proofs.Bools.{never, eqb_is, or_right}
 use Rattle.graph.specs.Split.{after}
-use Rattle.graph.specs.Chain.{ByRules, step}
+use Rattle.graph.specs.Chain.{ByRules, ending, step}
 use Rattle.graph.specs.Sound.{Sound}
 use Rattle.graph.specs.declared.Network.{Network}
 use Rattle.graph.specs.declared.Step.{Step}
@@ -107,6 +107,7 @@ module _ {who : Step → ℕ} {shown : ℕ → Bool} (role : Role who shown) whe
       → (who t < g.edges) × (live g (who t) ≡ true)
   role-live sound (step more r rest) first =
       let w = stepped sound (omega arith) _ r in (role.its_edge w, role.its_live sound w)
+  role-live {j = j} {k = k} {t = t} sound (ending {g = g} {d = d} _ _) n = elim n [ ]
   role-live {g} {ts = s ∷ ts} {t = t} sound (step more r rest) (later n) =
       let w = stepped sound (omega arith) s r in
       let q = role-live (sound-step sound s w) rest n in
@@ -116,6 +117,7 @@ module _ {who : Step → ℕ} {shown : ℕ → Bool} (role : Role who shown) whe
   -- it leaves in its role, with the step's number
   pub role-leaves : {g : Network} {ts : List Step} {d j k : ℕ} {t : Step} → Sound g → ByRules g ts d → Numbered j ts k t
       → (shown (departure_from j g ts d (who t)).rule ≡ true) × ((departure_from j g ts d (who t)).step ≡ k)
+  role-leaves {ts = []} {j = j} {k = k} {t = t} sound _ n = elim n [ ]
   role-leaves {g} {ts = s ∷ ts} {d = d} {j = j} sound (step more r rest) first =
       (role.its_rule j g s ts d r.different, role.its_step j g s ts d r.different)
   role-leaves {g} {ts = s ∷ ts} {d = d} {j = j} {t = t} sound (step more r rest) (later n) =
@@ -127,6 +129,7 @@ module _ {who : Step → ℕ} {shown : ℕ → Bool} (role : Role who shown) whe
   -- and no other edge does
   pub role-only : {g : Network} {ts : List Step} {d j k : ℕ} {t : Step} → ByRules g ts d → Numbered j ts k t → (e : ℕ)
       → shown (departure_from j g ts d e).rule ≡ true → (departure_from j g ts d e).step ≡ k → e ≡ who t
+  role-only {ts = []} {j = j} {k = k} {t = t} _ n e h q = elim n [ ]
   role-only {g} {ts = s ∷ ts} {d = d} {j = j} (step more r rest) first e h q =
       ⊎_elim (λ p. p) (λ p. absurd (too-late (form (suc j) (after g s) ts d e) (rw p at h) (rw p at q)))
       (role.no_other j g s ts d e h)
