@@ -1,7 +1,7 @@
 -- Edges taken one after the other: what is known while a list is read, and while edges to be written are checked.
 -- Assumes nothing.
 use mathlib.Core.Path.{◌≡◌, refl, sym, ◌∙◌}
-use mathlib.Core.Bool.{Bool, true, false, not}
+use mathlib.Core.Bool.{Bool, true, false}
 use mathlib.Core.List.{List, [], ◌∷◌, ◌++◌, map}
 use Prim.Native.Nat.{ℕ, suc, ◌+◌, ◌*◌, ◌≤◌, ◌<◌}
 use native.Mathlib.Omega.{arith}
@@ -9,7 +9,7 @@ use native.Mathlib.Numerals.{add-one}
 use lib.Dec.{leb, ltb}
 use lib.ListN.{length, drop, get_or, length-append, drop_of_length-le}
 use lib.Seq.{drop-cons}
-use borrow.Author.Tests.{leb-true, ltb-true, le-leb, lt-ltb, not-false}
+use borrow.Author.Tests.{leb-true, ltb-true, le-leb, lt-ltb}
 use Rattle.base.specs.Answer.{Answer, refused, answer}
 use Rattle.base.specs.Limits.{vertices_ok}
 use Rattle.base.specs.Refusals.{FORM, VERTICES, UNLISTED}
@@ -51,9 +51,9 @@ may-follow n least e h =
 
 -- the same, as a test in the code finds it
 pub tested : {n count least : ℕ} {whole : Answer Meaning} {taken : List ℕ} {left : Frames}
-    → Taken n whole taken count least left → (e : ℕ) (r : Bool) → r ≡ may_follow n least e → not r ≡ false
+    → Taken n whole taken count least left → (e : ℕ) (r : Bool) → r ≡ may_follow n least e → r ≡ true
     → MayFollow n least e
-tested {n} {count} {least} t e r p q = may-follow n least e (sym p ∙ not-false r q)
+tested {n} {count} {least} t e r p q = may-follow n least e (sym p ∙ q)
 
 module _ (n : ℕ) (whole : Answer Meaning) (taken : List ℕ) (count least : ℕ) (left : Frames)
     (t : Taken n whole taken count least left) where
