@@ -1,8 +1,3 @@
-pub mod Visiting
-pub mod Searches
-pub mod Trails
-pub mod Roots
-pub mod Rounding
 pub mod Storing
 pub mod Laying
 pub mod Reaching
