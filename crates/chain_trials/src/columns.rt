@@ -3,15 +3,15 @@ ghost use Rattle.std.specs.Prelude.{◌≤◌};
 
 use super::{refused, say};
 use chain_text::{ReadChain, read_chain};
-use libc::STDOUT_FILENO;
+use std::io;
 
 // Says what is read, and how many steps T's printed chain has, or the refusal. So many places are lent for z and for its
 // cost.
-fn read(what: &[u8], thirds: usize, costs: usize)
+fn read(rt: &impl Print, what: &[u8], thirds: usize, costs: usize) -> io::Result<()>
     requires { (thirds ≤ 1) × (costs ≤ 1) }
 {
-    say(what);
-    say(b": ");
+    say(rt, what)?;
+    say(rt, b": ")?;
     let text = b"030001000400050001fffffffffffffffe\n040003\n";
     let mut v = [0u16; 1];
     let mut x = [0u16; 1];
@@ -28,17 +28,15 @@ fn read(what: &[u8], thirds: usize, costs: usize)
         &mut cost[..costs],
     ) {
         ReadChain::Read { steps, dropped: _ } => {
-            io::print_decimal(STDOUT_FILENO, steps as u64);
-            say(b" step\n");
+            rt.print(steps)?;
+            say(rt, b" step\n")
         }
-        ReadChain::Refused(number) => {
-            refused(number);
-        }
+        ReadChain::Refused(number) => refused(rt, number),
     }
 }
 
-pub fn run() {
-    read(b"columns of one place", 1, 1);
-    read(b"no place for z", 0, 1);
-    read(b"no place for its cost", 1, 0);
+pub fn run(rt: &impl Print) -> io::Result<()> {
+    read(rt, b"columns of one place", 1, 1)?;
+    read(rt, b"no place for z", 0, 1)?;
+    read(rt, b"no place for its cost", 1, 0)
 }

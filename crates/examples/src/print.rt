@@ -7,19 +7,19 @@ use super::ports::degrees_of;
 use base::{EDGE_LIMIT, VERTEX_LIMIT};
 use graph::{Kept, Network};
 use incidence::{all_four, partners_at};
-use libc::STDOUT_FILENO;
+use std::io;
 
-pub fn text(words: &[u8]) {
-    io::write_all(STDOUT_FILENO, words);
+pub fn text(rt: &impl Print, words: &[u8]) -> io::Result<()> {
+    rt.write_all(words)
 }
 
-fn end_line() {
-    text(b"\n");
+fn end_line(rt: &impl Print) -> io::Result<()> {
+    text(rt, b"\n")
 }
 
-fn number(n: usize) {
-    text(b" ");
-    io::print_decimal(STDOUT_FILENO, n as u64);
+fn number(rt: &impl Print, n: usize) -> io::Result<()> {
+    text(rt, b" ")?;
+    rt.print(n)
 }
 
 // The size of a cost.
@@ -34,92 +34,93 @@ fn size(cost: i64) -> u64
     }
 }
 
-fn signed(cost: i64)
+fn signed(rt: &impl Print, cost: i64) -> io::Result<()>
     requires { nat_abs cost < 2 ^ 63 }
 {
-    text(b" ");
+    text(rt, b" ")?;
     if cost < 0 {
-        text(b"-");
+        text(rt, b"-")?;
     }
-    io::print_decimal(STDOUT_FILENO, size(cost));
+    rt.print(size(cost))
 }
 
 // How many cables each of the first cabinets has.
-fn ports(degrees: [u16; VERTEX_LIMIT], vertices: usize)
+fn ports(rt: &impl Print, degrees: [u16; VERTEX_LIMIT], vertices: usize) -> io::Result<()>
     requires { vertices ≤ vertex_limit }
 {
-    text(b"ports");
+    text(rt, b"ports")?;
     let mut v = 0;
     while v < vertices {
-        number(degrees[v] as usize);
+        number(rt, degrees[v] as usize)?;
         v += 1;
     }
-    end_line();
+    end_line(rt)
 }
 
 // A network's ports, and whether refusal 6 meets it.
-pub fn overview(g: Network)
+pub fn overview(rt: &impl Print, g: Network) -> io::Result<()>
     requires { (g.vertices ≤ vertex_limit) × (g.edges ≤ edge_limit) }
 {
     let degrees = degrees_of(g);
-    ports(degrees, g.vertices);
+    ports(rt, degrees, g.vertices)?;
     if all_four(&degrees, g.vertices) {
-        text(b"every cabinet has four cables\n");
+        text(rt, b"every cabinet has four cables\n")
     } else {
-        text(b"refusal 6\n");
+        text(rt, b"refusal 6\n")
     }
 }
 
 // The partners at a cabinet that has three.
-pub fn partners(g: Network, v: u8)
+pub fn partners(rt: &impl Print, g: Network, v: u8) -> io::Result<()>
     requires { g.edges ≤ edge_limit }
 {
     let found = partners_at(g, v);
-    text(b"partners at");
-    number(v as usize);
-    text(b":");
-    number(found.first);
-    number(found.second);
-    number(found.third);
-    end_line();
+    text(rt, b"partners at")?;
+    number(rt, v as usize)?;
+    text(rt, b":")?;
+    number(rt, found.first)?;
+    number(rt, found.second)?;
+    number(rt, found.third)?;
+    end_line(rt)
 }
 
 // A cable's ends and working cost.
-fn cable(e: usize, low: u8, high: u8, cost: i64)
+fn cable(rt: &impl Print, e: usize, low: u8, high: u8, cost: i64) -> io::Result<()>
     requires { nat_abs cost < 2 ^ 63 }
 {
-    text(b"cable");
-    number(e);
-    text(b" runs from");
-    number(low as usize);
-    text(b" to");
-    number(high as usize);
-    text(b" at cost");
-    signed(cost);
-    end_line();
+    text(rt, b"cable")?;
+    number(rt, e)?;
+    text(rt, b" runs from")?;
+    number(rt, low as usize)?;
+    text(rt, b" to")?;
+    number(rt, high as usize)?;
+    text(rt, b" at cost")?;
+    signed(rt, cost)?;
+    end_line(rt)
 }
 
 // Every cable; a retired one has both ends at the cabinet that left.
-pub fn cables(g: Network)
+pub fn cables(rt: &impl Print, g: Network) -> io::Result<()>
     requires { (g.edges ≤ edge_limit) × Light g }
 {
     let edges = g.edges;
     let mut e = 0;
     while e < edges {
-        cable(e, g.low[e], g.high[e], g.cost[e]);
+        cable(rt, e, g.low[e], g.high[e], g.cost[e])?;
         e += 1;
     }
+    Ok(())
 }
 
 // The numbers of the kept cables.
-pub fn kept(k: Kept) {
-    text(b"kept");
+pub fn kept(rt: &impl Print, k: Kept) -> io::Result<()> {
+    text(rt, b"kept")?;
     let mut e = 0;
     while e < EDGE_LIMIT {
         if k.marks[e] {
-            number(e);
+            number(rt, e)?;
         }
         e += 1;
     }
-    end_line();
+    end_line(rt)
 }

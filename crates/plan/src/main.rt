@@ -1,7 +1,7 @@
 // The plan program: reads a network text, and writes its chain text and kept text, or one refusal line.
 #![tactic(auto)]
 
-ghost use Rattle.std.specs.Prelude.{◌≡◌, ◌+◌, ◌≤◌, length};
+ghost use Rattle.std.specs.Prelude.{◌≡◌, ◌+◌, ◌≤◌, length, IfOk};
 ghost use Rattle.io.specs.Counts.{IsPrefixLen};
 ghost use Rattle.base.specs.Answer.{filled};
 ghost use Rattle.base.specs.Lengths.{longest_network, longest_kept, longest_chain};
@@ -10,7 +10,8 @@ ghost use Rattle.claim.specs.Services.{plan_text, planned_of};
 use base::{LONGEST_CHAIN, LONGEST_KEPT, LONGEST_NETWORK, Reply};
 use claim::Planned;
 use kept_text::write_refusal;
-use libc::{STDIN_FILENO, STDOUT_FILENO};
+use std::io;
+use std::io::Read;
 use thinning::plan;
 
 // One byte more than the longest network text has: a longer input is answered as these bytes are (the laws
@@ -21,21 +22,30 @@ const INPUT_ROOM: usize = LONGEST_NETWORK + 1;
 const LINE_ROOM: usize = 16;
 
 // Writes the line of a refusal.
-fn refuse(number: u8) {
+fn refuse(rt: &impl Print, number: u8) -> io::Result<()> {
     let mut line = [0u8; LINE_ROOM];
     let Reply::Done(length) = write_refusal(number, &mut line) else {
-        return;
+        return Ok(());
     };
-    io::write_all(STDOUT_FILENO, &line[..length]);
+    rt.write_all(&line[..length])
 }
 
 // Reads standard input, as far as it says what is answered, and answers how many bytes that is. The buffer has one byte
 // more than the longest network text, neither less nor more.
-fn read_input(input: &mut [u8]) -> usize
+fn read_input(rt: &impl Input, input: &mut [u8]) -> io::Result<usize>
     requires { length input.old ≡ longest_network + 1 }
-    ensures { IsPrefixLen result input.new }
+    ensures { IfOk result (λ n. IsPrefixLen n input.new) }
 {
-    io::read_full(STDIN_FILENO, input)
+    let mut reader = rt.reader();
+    let mut done = 0;
+    while done < input.len() {
+        let n = reader.read(&mut input[done..])?;
+        if n == 0 {
+            break;
+        }
+        done += n;
+    }
+    Ok(done)
 }
 
 // Plans a network text into buffers that have room for the longest texts, so never 13 (the law `every-plan-fits` of
@@ -51,7 +61,7 @@ fn plan_roomy(network: &[u8], chain: &mut [u8], kept: &mut [u8]) -> Planned
 }
 
 // Plans a network text and writes what is due.
-fn answer(network: &[u8]) {
+fn answer(rt: &impl Print, network: &[u8]) -> io::Result<()> {
     let mut chain = [0u8; LONGEST_CHAIN];
     let mut kept = [0u8; LONGEST_KEPT];
     match plan_roomy(network, &mut chain, &mut kept) {
@@ -59,17 +69,16 @@ fn answer(network: &[u8]) {
             chain: chain_length,
             kept: kept_length,
         } => {
-            io::write_all(STDOUT_FILENO, &chain[..chain_length]);
-            io::write_all(STDOUT_FILENO, &kept[..kept_length]);
+            rt.write_all(&chain[..chain_length])?;
+            rt.write_all(&kept[..kept_length])
         }
-        Planned::Refused(number) => {
-            refuse(number);
-        }
+        Planned::Refused(number) => refuse(rt, number),
     }
 }
 
-fn main() {
+// A read or a write that fails ends the program with that error.
+fn main(rt: HostRuntime) -> io::Result<()> {
     let mut input = [0u8; INPUT_ROOM];
-    let n = read_input(&mut input);
-    answer(&input[..n]);
+    let n = read_input(&rt, &mut input)?;
+    answer(&rt, &input[..n])
 }

@@ -2,58 +2,48 @@
 use super::{refused, say};
 use base::{LONGEST_CHAIN, LONGEST_KEPT, LONGEST_NETWORK, Reply};
 use claim::{Acceptance, Planned};
-use libc::STDOUT_FILENO;
+use std::io;
 use tables::{check_table, plan_table, table_network};
 
 // Says what a table is, and how its check answers.
-fn table(what: &[u8], text: &[u8]) {
-    say(what);
-    say(b": ");
+fn table(rt: &impl Print, what: &[u8], text: &[u8]) -> io::Result<()> {
+    say(rt, what)?;
+    say(rt, b": ")?;
     match check_table(text) {
-        Acceptance::Accepted => {
-            say(b"accepted\n");
-        }
-        Acceptance::Refused(number) => {
-            refused(number);
-        }
+        Acceptance::Accepted => say(rt, b"accepted\n"),
+        Acceptance::Refused(number) => refused(rt, number),
     }
 }
 
 // Says what a table is, and writes the network text that it stands for, or the refusal.
-fn network(what: &[u8], text: &[u8]) {
-    say(what);
-    say(b": ");
+fn network(rt: &impl Print, what: &[u8], text: &[u8]) -> io::Result<()> {
+    say(rt, what)?;
+    say(rt, b": ")?;
     let mut network = [0u8; LONGEST_NETWORK];
     match table_network(text, &mut network) {
         Reply::Done(length) => {
-            say(b"written\n");
-            io::write_all(STDOUT_FILENO, &network[..length]);
+            say(rt, b"written\n")?;
+            rt.write_all(&network[..length])
         }
-        Reply::Refused(number) => {
-            refused(number);
-        }
+        Reply::Refused(number) => refused(rt, number),
     }
 }
 
 // The same with room for all bytes of a network of two vertices but the last.
-fn network_short(what: &[u8], text: &[u8]) {
-    say(what);
-    say(b": ");
+fn network_short(rt: &impl Print, what: &[u8], text: &[u8]) -> io::Result<()> {
+    say(rt, what)?;
+    say(rt, b": ")?;
     let mut network = [0u8; 134];
     match table_network(text, &mut network) {
-        Reply::Done(_) => {
-            say(b"written\n");
-        }
-        Reply::Refused(number) => {
-            refused(number);
-        }
+        Reply::Done(_) => say(rt, b"written\n"),
+        Reply::Refused(number) => refused(rt, number),
     }
 }
 
 // Says what a table is, and writes the texts of its plan, or the refusal.
-fn plan(what: &[u8], text: &[u8]) {
-    say(what);
-    say(b": ");
+fn plan(rt: &impl Print, what: &[u8], text: &[u8]) -> io::Result<()> {
+    say(rt, what)?;
+    say(rt, b": ")?;
     let mut chain = [0u8; LONGEST_CHAIN];
     let mut kept = [0u8; LONGEST_KEPT];
     match plan_table(text, &mut chain, &mut kept) {
@@ -61,188 +51,212 @@ fn plan(what: &[u8], text: &[u8]) {
             chain: chain_length,
             kept: kept_length,
         } => {
-            say(b"planned\n");
-            io::write_all(STDOUT_FILENO, &chain[..chain_length]);
-            io::write_all(STDOUT_FILENO, &kept[..kept_length]);
+            say(rt, b"planned\n")?;
+            rt.write_all(&chain[..chain_length])?;
+            rt.write_all(&kept[..kept_length])
         }
-        Planned::Refused(number) => {
-            refused(number);
-        }
+        Planned::Refused(number) => refused(rt, number),
     }
 }
 
 // The same with room for all bytes of the kept text of two edges but the last.
-fn plan_short(what: &[u8], text: &[u8]) {
-    say(what);
-    say(b": ");
+fn plan_short(rt: &impl Print, what: &[u8], text: &[u8]) -> io::Result<()> {
+    say(rt, what)?;
+    say(rt, b": ")?;
     let mut chain = [0u8; 22];
     let mut kept = [0u8; 48];
     match plan_table(text, &mut chain, &mut kept) {
-        Planned::Written { chain: _, kept: _ } => {
-            say(b"planned\n");
-        }
-        Planned::Refused(number) => {
-            refused(number);
-        }
+        Planned::Written { chain: _, kept: _ } => say(rt, b"planned\n"),
+        Planned::Refused(number) => refused(rt, number),
     }
 }
 
 // Heads: their form, how many vertices, the reserved edge, how many spans.
-fn heads() {
-    table(b"no table", b"");
+fn heads(rt: &impl Print) -> io::Result<()> {
+    table(rt, b"no table", b"")?;
     table(
+        rt,
         b"a network for a table",
         b"0100020000\n020000000000010000000000000005\n",
-    );
-    table(b"a table of one cabinet", b"08000100000000\n");
-    table(b"a table of 257 cabinets", b"08010100000000\n");
+    )?;
+    table(rt, b"a table of one cabinet", b"08000100000000\n")?;
+    table(rt, b"a table of 257 cabinets", b"08010100000000\n")?;
     table(
+        rt,
         b"cable 4 of two cabinets reserved",
         b"08000200040001\n0900000001040000000000000005\n",
-    );
+    )?;
     table(
+        rt,
         b"cable 3 of two cabinets reserved",
         b"08000200030001\n0900000001040000000000000005\n",
-    );
-    table(b"five spans for two cabinets", b"08000200000005\n");
+    )?;
+    table(rt, b"five spans for two cabinets", b"08000200000005\n")?;
     table(
+        rt,
         b"four spans for two cabinets, none there",
         b"08000200000004\n",
-    );
-    table(b"five spans, and cable 4 reserved", b"08000200040005\n");
+    )?;
+    table(rt, b"five spans, and cable 4 reserved", b"08000200040005\n")
 }
 
 // Spans: their ends, weights and order.
-fn spans() {
+fn spans(rt: &impl Print) -> io::Result<()> {
     table(
+        rt,
         b"a span from 1 to 1",
         b"08000200000001\n0900010001040000000000000005\n",
-    );
+    )?;
     table(
+        rt,
         b"a span from 1 to 0",
         b"08000200000001\n0900010000040000000000000005\n",
-    );
+    )?;
     table(
+        rt,
         b"a span from 0 to 2",
         b"08000200000001\n0900000002040000000000000005\n",
-    );
+    )?;
     table(
+        rt,
         b"weight 0",
         b"08000200000001\n0900000001000000000000000005\n",
-    );
+    )?;
     table(
+        rt,
         b"weight 5",
         b"08000200000001\n0900000001050000000000000005\n",
-    );
+    )?;
     table(
+        rt,
         b"span 0-1 twice",
         b"08000200000002\n0900000001020000000000000005\n0900000001020000000000000005\n",
-    );
+    )?;
     table(
+        rt,
         b"span 0-1 behind 0-2",
         b"08000300000002\n0900000002020000000000000001\n0900000001020000000000000007\n",
-    );
+    )?;
     table(
+        rt,
         b"span 0-2 behind 1-2",
         b"08000300000002\n0900010002020000000000000003\n0900000002020000000000000001\n",
-    );
+    )
 }
 
 // Spans: their costs, and which of several faults counts.
-fn costs() {
+fn costs(rt: &impl Print) -> io::Result<()> {
     table(
+        rt,
         b"a span of cost 1,000,000,000,001",
         b"08000200000001\n090000000104000000e8d4a51001\n",
-    );
+    )?;
     table(
+        rt,
         b"a span of cost 1,000,000,000,000",
         b"08000200000001\n090000000104000000e8d4a51000\n",
-    );
+    )?;
     table(
+        rt,
         b"a span of cost -1,000,000,000,001",
         b"08000200000001\n090000000104ffffff172b5aefff\n",
-    );
+    )?;
     table(
+        rt,
         b"a span of cost -1,000,000,000,000",
         b"08000200000001\n090000000104ffffff172b5af000\n",
-    );
+    )?;
     table(
+        rt,
         b"a span of the highest cost that eight bytes say",
         b"08000200000001\n0900000001047fffffffffffffff\n",
-    );
+    )?;
     table(
+        rt,
         b"a span of the lowest cost that eight bytes say",
         b"08000200000001\n0900000001048000000000000000\n",
-    );
+    )?;
     table(
+        rt,
         b"ends, weight and cost wrong",
         b"08000200000001\n090000000205000000e8d4a51001\n",
-    );
+    )?;
     table(
+        rt,
         b"weight and cost wrong",
         b"08000200000001\n090000000105000000e8d4a51001\n",
-    );
+    )
 }
 
 // What is told behind the last span: bytes left over, the total, the network.
-fn totals() {
+fn totals(rt: &impl Print) -> io::Result<()> {
     table(
+        rt,
         b"a total of 3",
         b"08000200000001\n0900000001030000000000000005\n",
-    );
+    )?;
     table(
+        rt,
         b"a total of 5",
         b"08000300000002\n0900000001040000000000000005\n0900000002010000000000000005\n",
-    );
+    )?;
     table(
+        rt,
         b"a total of 7",
         b"08000300000002\n0900000001040000000000000005\n0900000002030000000000000005\n",
-    );
+    )?;
     table(
+        rt,
         b"a total of 3, and a byte left over",
         b"08000200000001\n0900000001030000000000000005\n0",
-    );
+    )?;
     table(
+        rt,
         b"a span with four bytes for a cost",
         b"08000200000001\n09000000010400000005\n",
-    );
+    )?;
     table(
+        rt,
         b"a span cut off",
         b"08000200000001\n090000000104000000000000000",
-    );
+    )?;
     table(
+        rt,
         b"0-1 three times, 0-2 twice, 1-2, as spans",
         b"08000300000003\n0900000001030000000000000001\n0900000002020000000000000001\n0900010002010000000000000001\n",
-    );
+    )?;
     table(
+        rt,
         b"0-1 three times, 0-2, 1-3, 2-3 three times, as spans",
         b"08000400000004\n0900000001030000000000000001\n0900000002010000000000000001\n0900010003010000000000000001\n\
             0900020003030000000000000001\n",
-    );
+    )
 }
 
-pub fn run() {
-    heads();
-    spans();
-    costs();
-    totals();
+pub fn run(rt: &impl Print) -> io::Result<()> {
+    heads(rt)?;
+    spans(rt)?;
+    costs(rt)?;
+    totals(rt)?;
     let pair = b"08000200000001\n0900000001040000000000000005\n";
     let triangle =
         b"08000300000003\n0900000001020000000000000007\n0900000002020000000000000001\n0900010002020000000000000003\n";
-    table(b"two cabinets and one span", pair);
-    network(b"its network", pair);
-    network_short(b"its network in 134 bytes", pair);
-    plan(b"its plan", pair);
-    plan_short(b"its plan in 48 bytes", pair);
+    table(rt, b"two cabinets and one span", pair)?;
+    network(rt, b"its network", pair)?;
+    network_short(rt, b"its network in 134 bytes", pair)?;
+    plan(rt, b"its plan", pair)?;
+    plan_short(rt, b"its plan in 48 bytes", pair)?;
     plan(
+        rt,
         b"the plan of four cables at -1",
         b"08000200000001\n090000000104ffffffffffffffff\n",
-    );
-    table(b"three cabinets and three spans", triangle);
-    network(b"their network", triangle);
-    plan(b"their plan", triangle);
+    )?;
+    table(rt, b"three cabinets and three spans", triangle)?;
+    network(rt, b"their network", triangle)?;
+    plan(rt, b"their plan", triangle)?;
     network(
+        rt,
         b"the network of the table with 0-1 three times, 0-2 twice, 1-2",
         b"08000300000003\n0900000001030000000000000001\n0900000002020000000000000001\n0900010002010000000000000001\n",
-    );
+    )
 }
