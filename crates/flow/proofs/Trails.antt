@@ -104,8 +104,7 @@ module _ {mate residual : List ℕ} (m : Mated mate) (b : Balanced mate residual
         let second = capacity-set mate less S (at mate p) (at residual (at mate p) + 1) (rw length-set b.long)
         (m.below p port) in
         let back = m.back p port in
-        let same : at less (at mate p) ≡ at residual (at mate p) =
-        get_or-set_other residual p (at mate p) _ 0 other in
+        let same : at less (at mate p) ≡ at residual (at mate p) = get_or-set_other residual p (at mate p) _ 0 other in
         push-leaving (S (vertex_of p)) (S (far_vertex mate p)) _ _ _ _ _ carries first (rw (back, same) at second)
 
 -- a unit on its way between a root and the target goes one port further

@@ -1,15 +1,15 @@
 -- Laws of searches that visit the vertices in the order in which they are reached.
 use mathlib.Core.Bool.{Bool, true, false}
 use mathlib.Core.List.{List}
-use mathlib.Core.Logic.{◌≢◌, ◌⊎◌, inl, inr, ⊎_elim}
-use mathlib.Core.Path.{◌≡◌, refl, sym, ◌∙◌, ap}
+use mathlib.Core.Logic.{◌⊎◌, inl, inr, ⊎_elim}
+use mathlib.Core.Path.{◌≡◌, sym, ◌∙◌, ap}
 use Prim.Native.Nat.{ℕ, ◌+◌, ◌≤◌, ◌<◌}
 use native.Mathlib.Decide.{ℕ_discrete, dec_lt}
 use native.Mathlib.Omega.{arith}
 use Rattle.base.specs.Columns.{at}
 use Rattle.base.specs.Limits.{vertex_limit}
 use Rattle.ports.specs.Ports.{port_limit, vertex_of, far_vertex}
-use Rattle.flow.specs.Reach.{Tree, Grown, Shut, Apart, WentOn, Encounter}
+use Rattle.flow.specs.Reach.{Grown, Apart, WentOn, Encounter}
 use Rattle.flow.specs.Meet.{Searching, Closed, Meeting, Parted}
 use Rattle.flow.proofs.Visiting.{clock-most, grown-none, grown-on, shut-later}
 

@@ -1,5 +1,5 @@
 -- Laws of the roots of a search: a search that begins at one vertex or at two.
-use mathlib.Core.Bool.{Bool, true, false}
+use mathlib.Core.Bool.{Bool}
 use mathlib.Core.List.{List}
 use mathlib.Core.Logic.{◌≢◌, ◌⊎◌, inl, inr, ⊎_elim}
 use mathlib.Core.Path.{◌≡◌, refl, sym, ◌∙◌, ap}
@@ -12,12 +12,11 @@ use Rattle.base.specs.Columns.{at}
 use Rattle.base.specs.Fold.{bit}
 use Rattle.base.specs.Limits.{vertex_limit}
 use Rattle.base.proofs.Sums.{term-le}
-use Rattle.graph.specs.Cut.{Side}
 use Rattle.ports.specs.Ports.{ports_each, port_limit, vertex_of, far_vertex, Mated}
 use Rattle.flow.specs.Capacity.{Balanced}
-use Rattle.flow.specs.Reach.{positive, reached, reached_count, Tree, Apart}
+use Rattle.flow.specs.Reach.{positive, reached, reached_count, Apart}
 use Rattle.flow.specs.Meet.{Searching}
-use Rattle.flow.specs.Sending.{Between, Distinct, Leaving}
+use Rattle.flow.specs.Sending.{Distinct}
 use Rattle.flow.specs.declared.Pair.{Pair}
 
 -- the roots are those of the numbers from `first` to 1, and no other vertex is reached
