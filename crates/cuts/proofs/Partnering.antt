@@ -1,6 +1,6 @@
 -- A partner with the two others: the network can be split off with it, what is left is well formed, and the cuts
 -- between two pairs of its vertices decide whether the partner is admissible.
-use mathlib.Core.Bool.{Bool, true, false}
+use mathlib.Core.Bool.{Bool, true}
 use mathlib.Core.Logic.{◌↔◌}
 use mathlib.Core.Path.{◌≡◌}
 use Prim.Native.Nat.{ℕ, ◌<◌}
@@ -13,7 +13,7 @@ use Rattle.graph.specs.Split.{split, admissible}
 use Rattle.base.specs.Limits.{edge_limit}
 use Rattle.graph.specs.State.{Splittable}
 use Rattle.graph.specs.declared.Network.{Network}
-use Rattle.flow.specs.Apart.{Between, FourApart}
+use Rattle.flow.specs.Apart.{FourApart}
 use Rattle.flow.specs.declared.Pair.{Pair}
 use Rattle.base.proofs.Bools.{same_test}
 use Rattle.graph.proofs.Lemma9.{pairs-suffice, pairs-needed}
