@@ -132,8 +132,7 @@ module _ {g : Network} (l : Last g) (d : ℕ) (passed : end_refusal g d ≡ 0) w
   unfolding marks
   two-of i j ei ej =
       let t = last-trio l (first_three (last_edges g)) refl in
-      let w =
-      chosen t.at t.listed d (ap (among d) (sym (last-three l)) ∙ of-last g d (ending-ruled g d passed).one) in
+      let w = chosen t.at t.listed d (ap (among d) (sym (last-three l)) ∙ of-last g d (ending-ruled g d passed).one) in
       let others : kept_with g d ≡ w.y ∷ w.z ∷ [] = ap (without d) (last-three l) ∙ w.others in
       let qi : i ≡ w.y = rw others at ei in
       let qj : j ≡ w.z = rw others at ej in

@@ -1,5 +1,4 @@
 -- `bridges::points::begin` meets its contract. The loop's invariant: the places below i are their own points.
-use Prim.Native.Nat.{◌-◌}
 use native.Mathlib.Omega.{arith}
 use mathlib.Core.Path.{refl}
 use Rattle.base.proofs.Filling.{filled_none, filled_more}

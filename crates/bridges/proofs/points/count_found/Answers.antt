@@ -1,5 +1,4 @@
 -- `bridges::points::count_found` meets its contract. The loop's invariant: the bridges below e are counted.
-use Prim.Native.Nat.{◌-◌}
 use native.Mathlib.Omega.{arith}
 use Rattle.bridges.proofs.Counting.{counted_none, counted-hit, counted-miss, counted-all}
 use Rattle.bridges.proofs.points.count_found.Goals as goal

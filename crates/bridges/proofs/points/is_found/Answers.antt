@@ -1,11 +1,7 @@
 -- `bridges::points::is_found` meets its contract.
-use native.Mathlib.Omega.{arith}
 use borrow.Author.Tests.{eq-eqb, ne_eqb}
 use Rattle.bridges.specs.LowPoints.{found}
 use Rattle.bridges.proofs.points.is_found.Goals as goal
-
-pub overflow_cast-edge : goal.overflow_cast-edge
-overflow_cast-edge c = omega (arith, c.shared_slice_known-6-1.given c.of-span.result.lower)
 
 pub returns-then-edge-lower : goal.returns-then-edge-lower
 unfolding found

@@ -7,9 +7,6 @@ use Rattle.bridges.proofs.points.note.Goals as goal
 pub bounds-edge-lower : goal.bounds-edge-lower
 bounds-edge-lower c = omega arith
 
-pub overflow_cast-edge : goal.overflow_cast-edge
-overflow_cast-edge c = omega (arith, c.shared_slice_known-5-1.given c.of-span.result.lower)
-
 pub fall-requires : goal.fall-requires
 fall-requires c = omega arith
 

@@ -1,5 +1,4 @@
 -- `bridges::points::note_all` meets its contract. The loop's invariant: the listed edges below e are noted.
-use Prim.Native.Nat.{◌-◌}
 use mathlib.Core.Path.{◌≡◌}
 use native.Mathlib.Omega.{arith}
 use Rattle.bridges.proofs.Noting.{noted-none, noted-unlisted, noted-listed}

@@ -1,9 +1,7 @@
 -- `connection::ends::chain` meets its contract. The loop's
 -- invariant: the ends of the edges below e are left to chain.
-use Prim.Native.Nat.{◌-◌}
 use mathlib.Core.Path.{refl}
 use native.Mathlib.Omega.{arith}
-use Rattle.connection.specs.Incidence.{chained}
 use Rattle.connection.proofs.Chaining.{chained-listed, chained-unlisted, chained-done}
 use Rattle.connection.proofs.ends.chain.Goals as goal
 
@@ -19,9 +17,6 @@ bounds-listed-e c = omega arith
 pub bounds-high-e : goal.bounds-high-e
 bounds-high-e c = omega arith
 
-pub overflow_cast-high : goal.overflow_cast-high
-overflow_cast-high c = omega (arith, c.shared_slice_known-then-listed-e-1.given (c.loop-e.e - 1))
-
 pub overflow_mul-e : goal.overflow_mul-e
 overflow_mul-e c = omega arith
 
@@ -31,23 +26,14 @@ overflow_add-e c = omega arith
 pub overflow_cast-e : goal.overflow_cast-e
 overflow_cast-e c = omega arith
 
-pub hook-requires : goal.hook-requires
-hook-requires c = omega (arith, c.shared_slice_known-then-listed-e-1.given (c.loop-e.e - 1))
-
 pub bounds-low-e : goal.bounds-low-e
 bounds-low-e c = omega arith
-
-pub overflow_cast-low : goal.overflow_cast-low
-overflow_cast-low c = omega (arith, c.shared_slice_known-then-listed-e-2-1.given (c.loop-e.e - 1))
 
 pub overflow_mul-e-then-listed-e : goal.overflow_mul-e-then-listed-e
 overflow_mul-e-then-listed-e c = omega arith
 
 pub overflow_cast-e-then-listed-e : goal.overflow_cast-e-then-listed-e
 overflow_cast-e-then-listed-e c = omega arith
-
-pub hook-requires-then-listed-e : goal.hook-requires-then-listed-e
-hook-requires-then-listed-e c = omega (arith, c.shared_slice_known-then-listed-e-2-1.given (c.loop-e.e - 1))
 
 pub loop-e-smaller-then-listed-e : goal.loop-e-smaller-then-listed-e
 loop-e-smaller-then-listed-e c = omega arith

@@ -1,5 +1,5 @@
 -- What the loops of `connection::ends::chain` keep, and that they end.
-use Prim.Native.Nat.{◌-◌, ◌≤◌}
+use Prim.Native.Nat.{◌≤◌}
 use mathlib.Core.Path.{◌≡◌}
 use lib.ListN.{length}
 use Rattle.base.specs.Limits.{vertex_limit}

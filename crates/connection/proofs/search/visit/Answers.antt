@@ -1,5 +1,4 @@
 -- `connection::search::visit` meets its contract. The loop's invariant: only edges of the list are passed.
-use Prim.Native.Nat.{◌-◌}
 use native.Mathlib.Omega.{arith}
 use Rattle.connection.specs.Search.{Sized, state, Passes, none, more}
 use Rattle.connection.proofs.search.visit.Goals as goal

@@ -1,6 +1,6 @@
 -- `connection::words::count` meets its contract. The loop's
 -- invariant: the total is the size as far as the words passed.
-use Prim.Native.Nat.{ℕ, ◌+◌, ◌*◌, ◌-◌, ◌≤◌, ◌<◌, ◌^◌}
+use Prim.Native.Nat.{ℕ, ◌+◌, ◌*◌, ◌≤◌, ◌<◌, ◌^◌}
 use mathlib.Core.Path.{◌≡◌, refl, ◌∙◌, ap}
 use native.Mathlib.Omega.{arith}
 use lib.Count.{ones, ones-le}
@@ -26,7 +26,7 @@ overflow_cast-total c =
     let word : ℕ =
     get_or c.args.words.now c.loop-i.i 0 in
     let word_fits : word < 2 ^ word_bits =
-    omega (arith, c.shared_slice_known-1.given c.loop-i.i) in
+    omega arith in
     let few : ones word ≤ word_bits =
     ones-le word_bits _ word_fits in
     omega (arith, few)
@@ -36,7 +36,7 @@ overflow_add-total c =
     let word : ℕ =
     get_or c.args.words.now c.loop-i.i 0 in
     let word_fits : word < 2 ^ word_bits =
-    omega (arith, c.shared_slice_known-1.given c.loop-i.i) in
+    omega arith in
     let few : ones word ≤ word_bits =
     ones-le word_bits _ word_fits in
     omega (arith, few)
@@ -52,7 +52,7 @@ loop-i-preserved c =
     let word : ℕ =
     get_or c.args.words.now c.loop-i.i 0 in
     let word_fits : word < 2 ^ word_bits =
-    omega (arith, c.shared_slice_known-1.given c.loop-i.i) in
+    omega arith in
     let few : ones word ≤ word_bits =
     ones-le word_bits _ word_fits in
     let more = size-more c.args.words.now c.loop-i.i word_fits in

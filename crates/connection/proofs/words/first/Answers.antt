@@ -1,5 +1,4 @@
 -- `connection::words::first` meets its contract. The loop's invariant: the words passed have no bit set.
-use Prim.Native.Nat.{◌-◌}
 use mathlib.Core.Path.{sym}
 use native.Mathlib.Omega.{arith}
 use native.Mathlib.Nat.{zero-add}

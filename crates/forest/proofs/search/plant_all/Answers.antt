@@ -1,5 +1,4 @@
 -- `forest::search::plant_all` meets its contract. The loop's invariant: the vertices below v have places.
-use Prim.Native.Nat.{◌-◌}
 use native.Mathlib.Omega.{arith}
 use native.Mathlib.Decide.{ℕ_discrete}
 use Rattle.forest.specs.Search.{forest, Sized}

@@ -24,9 +24,6 @@ loop-count-init c =
     let h = sym c.vertices_ok.ensures ∙ c.if-not-vertices_ok.false in
     ((vertices-within _ h).1, search rules, taken_none _ (listed (map frame_of c.args.edges.now)) h)
 
-pub overflow_cast-edge : goal.overflow_cast-edge
-overflow_cast-edge c = omega (arith, c.shared_slice_known-in-loop-count-1.given c.loop-count.count)
-
 pub returns-then-not-may_follow : goal.returns-then-not-may_follow
 unfolding replied
 returns-then-not-may_follow c =

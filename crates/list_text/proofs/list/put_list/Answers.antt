@@ -18,7 +18,7 @@ pub loop-i-init : goal.loop-i-init
 loop-i-init c = (search rules, written_none _ c.args.text.now c.requires)
 
 pub overflow_cast-line : goal.overflow_cast-line
-overflow_cast-line c = omega (arith, c.shared_slice_known-in-loop-i-1.given c.loop-i.i)
+overflow_cast-line c = omega (arith, c.type_inv.edges c.loop-i.i)
 
 pub slice_bounds-put_line-count : goal.slice_bounds-put_line-count
 slice_bounds-put_line-count c =

@@ -1,0 +1,144 @@
+-- `chain_text::chain::read_chain` meets its contract.
+use native.Mathlib.Omega.{arith}
+use Rattle.chain_text.specs.Columns.{Columns, columns}
+use Rattle.chain_text.specs.Text.{read_chain}
+use Rattle.chain_text.specs.Working.{Room}
+use Rattle.chain_text.proofs.Given.{Stored, stored, read-refused, no_room, all-written}
+use Rattle.chain_text.proofs.chain.read_chain.Goals as goal
+use Rattle.chain_text.proofs.chain.read_chain.Goals.{then-v-steps-via-then-v-steps}
+use Rattle.chain_text.proofs.chain.read_chain.Goals.{then-v-steps-via-else-v-steps+then-x-steps}
+use Rattle.chain_text.proofs.chain.read_chain.Goals.{then-v-steps-via-else-v-steps+else-x-steps+then-y-steps}
+use Rattle.chain_text.proofs.chain.read_chain.Goals.{then-v-steps-via-else-v-steps+else-x-steps+else-y-steps+then-z-steps}
+use Rattle.chain_text.proofs.chain.read_chain.Goals.{then-v-steps-via-else-v-steps+else-x-steps+else-y-steps+else-z-steps+then-cost-steps}
+
+pub returns-in_default : goal.returns-in_default
+returns-in_default c =
+    let e = c.in_default.is in
+    rw e (read-refused _ _ _ c.parse_chain-reply.ensures e)
+
+pub returns-then-v-steps : goal.returns-then-v-steps
+returns-then-v-steps c =
+    let lent : Columns =
+    let a = c.args in columns a.v.now a.x.now a.y.now a.z.now a.cost.now in
+    let working : Columns =
+    let l = c.parse_chain-reply.new in columns l.v l.x l.y l.z l.cost in
+    let read : Stored (read_chain c.args.vertices c.args.text.now) c.in-Read.steps c.in-Read.dropped working =
+    stored c.parse_chain-reply.ensures c.in-Read.is in
+    no_room _ _ lent read
+    (λ (h : Room c.in-Read.steps lent).
+    elim c.then-v-steps.branch [
+      | then-v-steps-via-then-v-steps w ↦ omega (arith, h.v)
+      | then-v-steps-via-else-v-steps+then-x-steps w ↦ omega (arith, h.x)
+      | then-v-steps-via-else-v-steps+else-x-steps+then-y-steps w ↦ omega (arith, h.y)
+      | then-v-steps-via-else-v-steps+else-x-steps+else-y-steps+then-z-steps w ↦ omega (arith, h.z)
+      | then-v-steps-via-else-v-steps+else-x-steps+else-y-steps+else-z-steps+then-cost-steps w ↦ omega (arith, h.cost)
+    ])
+
+pub copy-requires : goal.copy-requires
+copy-requires c =
+    let lent : Columns =
+    let a = c.args in columns a.v.now a.x.now a.y.now a.z.now a.cost.now in
+    let working : Columns =
+    let l = c.parse_chain-reply.new in columns l.v l.x l.y l.z l.cost in
+    let read : Stored (read_chain c.args.vertices c.args.text.now) c.in-Read.steps c.in-Read.dropped working =
+    stored c.parse_chain-reply.ensures c.in-Read.is in
+    let room : Room c.in-Read.steps lent =
+    record {
+      v = c.if-v-steps.false;
+      x = c.if-x-steps.false;
+      y = c.if-y-steps.false;
+      z = c.if-z-steps.false;
+      cost = c.if-cost-steps.false;
+    } in
+    (omega (arith, read.starts.v.within), omega (arith, room.v))
+
+pub copy-requires-2 : goal.copy-requires-2
+copy-requires-2 c =
+    let lent : Columns =
+    let a = c.args in columns a.v.now a.x.now a.y.now a.z.now a.cost.now in
+    let working : Columns =
+    let l = c.parse_chain-reply.new in columns l.v l.x l.y l.z l.cost in
+    let read : Stored (read_chain c.args.vertices c.args.text.now) c.in-Read.steps c.in-Read.dropped working =
+    stored c.parse_chain-reply.ensures c.in-Read.is in
+    let room : Room c.in-Read.steps lent =
+    record {
+      v = c.if-v-steps.false;
+      x = c.if-x-steps.false;
+      y = c.if-y-steps.false;
+      z = c.if-z-steps.false;
+      cost = c.if-cost-steps.false;
+    } in
+    (omega (arith, read.starts.x.within), omega (arith, room.x))
+
+pub copy-requires-3 : goal.copy-requires-3
+copy-requires-3 c =
+    let lent : Columns =
+    let a = c.args in columns a.v.now a.x.now a.y.now a.z.now a.cost.now in
+    let working : Columns =
+    let l = c.parse_chain-reply.new in columns l.v l.x l.y l.z l.cost in
+    let read : Stored (read_chain c.args.vertices c.args.text.now) c.in-Read.steps c.in-Read.dropped working =
+    stored c.parse_chain-reply.ensures c.in-Read.is in
+    let room : Room c.in-Read.steps lent =
+    record {
+      v = c.if-v-steps.false;
+      x = c.if-x-steps.false;
+      y = c.if-y-steps.false;
+      z = c.if-z-steps.false;
+      cost = c.if-cost-steps.false;
+    } in
+    (omega (arith, read.starts.y.within), omega (arith, room.y))
+
+pub copy-requires-4 : goal.copy-requires-4
+copy-requires-4 c =
+    let lent : Columns =
+    let a = c.args in columns a.v.now a.x.now a.y.now a.z.now a.cost.now in
+    let working : Columns =
+    let l = c.parse_chain-reply.new in columns l.v l.x l.y l.z l.cost in
+    let read : Stored (read_chain c.args.vertices c.args.text.now) c.in-Read.steps c.in-Read.dropped working =
+    stored c.parse_chain-reply.ensures c.in-Read.is in
+    let room : Room c.in-Read.steps lent =
+    record {
+      v = c.if-v-steps.false;
+      x = c.if-x-steps.false;
+      y = c.if-y-steps.false;
+      z = c.if-z-steps.false;
+      cost = c.if-cost-steps.false;
+    } in
+    (omega (arith, read.starts.z.within), omega (arith, room.z))
+
+pub copy_costs-requires : goal.copy_costs-requires
+copy_costs-requires c =
+    let lent : Columns =
+    let a = c.args in columns a.v.now a.x.now a.y.now a.z.now a.cost.now in
+    let working : Columns =
+    let l = c.parse_chain-reply.new in columns l.v l.x l.y l.z l.cost in
+    let read : Stored (read_chain c.args.vertices c.args.text.now) c.in-Read.steps c.in-Read.dropped working =
+    stored c.parse_chain-reply.ensures c.in-Read.is in
+    let room : Room c.in-Read.steps lent =
+    record {
+      v = c.if-v-steps.false;
+      x = c.if-x-steps.false;
+      y = c.if-y-steps.false;
+      z = c.if-z-steps.false;
+      cost = c.if-cost-steps.false;
+    } in
+    (omega (arith, read.starts.cost.within), omega (arith, room.cost))
+
+pub returns : goal.returns
+returns c =
+    let lent : Columns =
+    let a = c.args in columns a.v.now a.x.now a.y.now a.z.now a.cost.now in
+    let working : Columns =
+    let l = c.parse_chain-reply.new in columns l.v l.x l.y l.z l.cost in
+    let read : Stored (read_chain c.args.vertices c.args.text.now) c.in-Read.steps c.in-Read.dropped working =
+    stored c.parse_chain-reply.ensures c.in-Read.is in
+    let room : Room c.in-Read.steps lent =
+    record {
+      v = c.if-v-steps.false;
+      x = c.if-x-steps.false;
+      y = c.if-y-steps.false;
+      z = c.if-z-steps.false;
+      cost = c.if-cost-steps.false;
+    } in
+    rw (c.copy.ensures, c.copy-2.ensures, c.copy-3.ensures, c.copy-4.ensures, c.copy_costs.ensures)
+    (all-written _ _ _ read room)
