@@ -1,6 +1,11 @@
+pub mod Visiting
+pub mod Searches
+pub mod Trails
+pub mod Roots
 pub mod Storing
 pub mod Laying
 pub mod Reaching
 pub mod Pushing
 pub mod Rounds
 pub mod Gathering
+pub mod Rounding

@@ -3,3 +3,7 @@ pub mod Arcs
 pub mod Ports
 pub mod Search
 pub mod Flow
+pub mod Capacity
+pub mod Reach
+pub mod Meet
+pub mod Sending
