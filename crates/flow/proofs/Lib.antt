@@ -8,3 +8,4 @@ pub mod Reaching
 pub mod Pushing
 pub mod Rounds
 pub mod Gathering
+pub mod Rounding

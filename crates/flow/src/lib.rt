@@ -10,6 +10,7 @@ use graph::Network;
 mod arcs; // arcs.rt: the arcs of a network
 mod meet; // meet.rt: searches that meet
 mod reach; // reach.rt: reaching vertices over ports
+mod round; // round.rt: rounds that send one unit more
 mod send; // send.rt: sending units along trails
 mod paths; // paths.rt: sending units from sources to sinks
 mod search; // search.rt: searching along arcs that can still carry something

@@ -1,8 +1,8 @@
 // The plan program: reads a network text, and writes its chain text and kept text, or one refusal line.
 #![tactic(auto)]
 
-ghost use Rattle.std.specs.Prelude.{◌≡◌, ◌+◌, ◌≤◌, length, IfOk};
-ghost use Rattle.io.specs.Counts.{IsPrefixLen};
+ghost use Rattle.std.specs.Prelude.{◌≡◌, ◌+◌, ◌≤◌, length};
+ghost use Rattle.std.specs.Io.{ReadsAtMost};
 ghost use Rattle.base.specs.Answer.{filled};
 ghost use Rattle.base.specs.Lengths.{longest_network, longest_kept, longest_chain};
 ghost use Rattle.claim.specs.Services.{plan_text, planned_of};
@@ -32,14 +32,13 @@ fn refuse(rt: &impl Print, number: u8) -> io::Result<()> {
 
 // Reads standard input, as far as it says what is answered, and answers how many bytes that is. The buffer has one byte
 // more than the longest network text, neither less nor more.
-fn read_input(rt: &impl Input, input: &mut [u8]) -> io::Result<usize>
+fn read_input(from: &mut impl Read, input: &mut [u8]) -> io::Result<usize>
     requires { length input.old ≡ longest_network + 1 }
-    ensures { IfOk result (λ n. IsPrefixLen n input.new) }
+    ensures { ReadsAtMost result input.new }
 {
-    let mut reader = rt.reader();
     let mut done = 0;
     while done < input.len() {
-        let n = reader.read(&mut input[done..])?;
+        let n = from.read(&mut input[done..])?;
         if n == 0 {
             break;
         }
@@ -79,6 +78,6 @@ fn answer(rt: &impl Print, network: &[u8]) -> io::Result<()> {
 // A read or a write that fails ends the program with that error.
 fn main(rt: HostRuntime) -> io::Result<()> {
     let mut input = [0u8; INPUT_ROOM];
-    let n = read_input(&rt, &mut input)?;
+    let n = read_input(&mut rt.stdin(), &mut input)?;
     answer(&rt, &input[..n])
 }

@@ -1,13 +1,13 @@
 -- `network_text::network::check_edges` meets its contract.
 use mathlib.Core.Logic.{inl, inr}
 use Rattle.network_text.specs.Columns.{EdgeThere}
+use Rattle.network_text.proofs.Columns.{one_of}
 use Rattle.network_text.proofs.Checking.{checking-none, checking-missing, checking-refused}
 use Rattle.network_text.proofs.Checking.{checking-next, checking-beyond, checking-end}
+use native.Mathlib.Omega.{arith}
 use Rattle.network_text.proofs.network.check_edges.Goals as goal
 use Rattle.network_text.proofs.network.check_edges.Goals.{then-low-i-via-then-low-i, then-low-i-via-else-low-i+then-high-i}
 use Rattle.network_text.proofs.network.check_edges.Goals.{then-low-i-via-else-low-i+else-high-i+then-cost-i}
-use Rattle.network_text.proofs.network.check_edges.Goals.{then-edges-low-via-then-edges-low, then-edges-low-via-else-edges-low+then-edges-high}
-use Rattle.network_text.proofs.network.check_edges.Goals.{then-edges-low-via-else-edges-low+else-edges-high+then-edges-cost}
 
 pub loop-i-init : goal.loop-i-init
 loop-i-init c = checking-none
@@ -58,13 +58,9 @@ loop-i-preserved c =
 pub returns-then-edges-low : goal.returns-then-edges-low
 returns-then-edges-low c =
     checking-beyond c.loop-i.invariant c.loop-i-test.false
-    (elim c.then-edges-low.branch [
-      | then-edges-low-via-then-edges-low w ↦ inl w.if-edges-low.true
-      | then-edges-low-via-else-edges-low+then-edges-high w ↦ inr (inl w.if-edges-high.true)
-      | then-edges-low-via-else-edges-low+else-edges-high+then-edges-cost w ↦ inr (inr w.if-edges-cost.true)
-    ])
+    (one_of (λ w. omega arith) (λ w. omega arith) (λ w. omega arith) c.then-edges-low.either)
 
 pub returns : goal.returns
 returns c =
     checking-end c.loop-i.invariant c.loop-i-test.false c.if-edges-low.false
-    c.if-edges-high.false c.if-edges-cost.false
+    (omega arith) (omega arith)
