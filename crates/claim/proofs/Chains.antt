@@ -13,7 +13,7 @@ use Rattle.frame.specs.Table.{STEP, DROPPED, line_length}
 use Rattle.frame.specs.Line.{is_line}
 use Rattle.base.specs.Limits.{edge_limit}
 use Rattle.departures.specs.Columns.{all_last, no_steps, ending_noted, rules_back, steps_back}
-use Rattle.departures.proofs.Columns.{rules-ended, steps-ended, rules-back, steps_back}
+use Rattle.departures.proofs.Columns.{rules-ended, steps-ended, rules-back, steps-back}
 use Rattle.graph.specs.Split.{split, after}
 use Rattle.graph.specs.Chain.{step_refusal, end_refusal, end_kept, lift, lifted}
 use Rattle.graph.specs.declared.Network.{Network}
@@ -181,4 +181,4 @@ module _ (k : ℕ) (g : Network) (text : List ℕ) (at : ℕ) where
     pub numbers-at-more : steps_back t.x t.y k (numbers_in (suc k) h (drop next text))
         ≡ numbers_in k g (drop at text)
     unfolding numbers_in
-    numbers-at-more = rw (steps-are, drop-is, after_is) (steps_back k g t _ _)
+    numbers-at-more = rw (steps-are, drop-is, after_is) (steps-back k g t _ _)

@@ -1,0 +1,18 @@
+-- `tables::plan_table` meets its contract.
+use mathlib.Core.Path.{◌∙◌, ap}
+use Rattle.base.specs.Answer.{filled}
+use Rattle.claim.specs.Services.{planned_of}
+use Rattle.tables.proofs.Same.{table-ready, plan-loaded}
+use Rattle.tables.proofs.plan_table.Goals as goal
+
+pub plan_loaded-requires : goal.plan_loaded-requires
+plan_loaded-requires c = table-ready _ c.load_table.ensures
+
+pub returns : goal.returns
+returns c =
+    let a = c.args in
+    let e = plan-loaded a.table.now a.chain.now a.kept.now c.load_table.ensures in record {
+      reply = c.plan_loaded.ensures.reply ∙ ap planned_of e;
+      chain = c.plan_loaded.ensures.chain ∙ ap (λ w. filled (λ t. t.chain) w a.chain.now) e;
+      kept = c.plan_loaded.ensures.kept ∙ ap (λ w. filled (λ t. t.kept) w a.kept.now) e;
+    }
