@@ -1,15 +1,11 @@
 -- `chain_text::chain::read_chain` meets its contract.
+use mathlib.Core.Logic.{⊎_elim}
 use native.Mathlib.Omega.{arith}
 use Rattle.chain_text.specs.Columns.{Columns, columns}
 use Rattle.chain_text.specs.Text.{read_chain}
 use Rattle.chain_text.specs.Working.{Room}
 use Rattle.chain_text.proofs.Given.{Stored, stored, read-refused, no_room, all-written}
 use Rattle.chain_text.proofs.chain.read_chain.Goals as goal
-use Rattle.chain_text.proofs.chain.read_chain.Goals.{then-v-steps-via-then-v-steps}
-use Rattle.chain_text.proofs.chain.read_chain.Goals.{then-v-steps-via-else-v-steps+then-x-steps}
-use Rattle.chain_text.proofs.chain.read_chain.Goals.{then-v-steps-via-else-v-steps+else-x-steps+then-y-steps}
-use Rattle.chain_text.proofs.chain.read_chain.Goals.{then-v-steps-via-else-v-steps+else-x-steps+else-y-steps+then-z-steps}
-use Rattle.chain_text.proofs.chain.read_chain.Goals.{then-v-steps-via-else-v-steps+else-x-steps+else-y-steps+else-z-steps+then-cost-steps}
 
 pub returns-in_default : goal.returns-in_default
 returns-in_default c =
@@ -26,13 +22,12 @@ returns-then-v-steps c =
     stored c.parse_chain-reply.ensures c.in-Read.is in
     no_room _ _ lent read
     (λ (h : Room c.in-Read.steps lent).
-    elim c.then-v-steps.branch [
-      | then-v-steps-via-then-v-steps w ↦ omega (arith, h.v)
-      | then-v-steps-via-else-v-steps+then-x-steps w ↦ omega (arith, h.x)
-      | then-v-steps-via-else-v-steps+else-x-steps+then-y-steps w ↦ omega (arith, h.y)
-      | then-v-steps-via-else-v-steps+else-x-steps+else-y-steps+then-z-steps w ↦ omega (arith, h.z)
-      | then-v-steps-via-else-v-steps+else-x-steps+else-y-steps+else-z-steps+then-cost-steps w ↦ omega (arith, h.cost)
-    ])
+    ⊎_elim (λ w. omega (arith, h.v, w))
+    (⊎_elim (λ w. omega (arith, h.x, w))
+    (⊎_elim (λ w. omega (arith, h.y, w))
+    (⊎_elim (λ w. omega (arith, h.z, w))
+    (λ w. omega (arith, h.cost, w)))))
+    c.then-v-steps.either)
 
 pub copy-requires : goal.copy-requires
 copy-requires c =
@@ -44,11 +39,11 @@ copy-requires c =
     stored c.parse_chain-reply.ensures c.in-Read.is in
     let room : Room c.in-Read.steps lent =
     record {
-      v = c.if-v-steps.false;
-      x = c.if-x-steps.false;
-      y = c.if-y-steps.false;
-      z = c.if-z-steps.false;
-      cost = c.if-cost-steps.false;
+      v = omega arith;
+      x = omega arith;
+      y = omega arith;
+      z = omega arith;
+      cost = omega arith;
     } in
     (omega (arith, read.starts.v.within), omega (arith, room.v))
 
@@ -62,11 +57,11 @@ copy-requires-2 c =
     stored c.parse_chain-reply.ensures c.in-Read.is in
     let room : Room c.in-Read.steps lent =
     record {
-      v = c.if-v-steps.false;
-      x = c.if-x-steps.false;
-      y = c.if-y-steps.false;
-      z = c.if-z-steps.false;
-      cost = c.if-cost-steps.false;
+      v = omega arith;
+      x = omega arith;
+      y = omega arith;
+      z = omega arith;
+      cost = omega arith;
     } in
     (omega (arith, read.starts.x.within), omega (arith, room.x))
 
@@ -80,11 +75,11 @@ copy-requires-3 c =
     stored c.parse_chain-reply.ensures c.in-Read.is in
     let room : Room c.in-Read.steps lent =
     record {
-      v = c.if-v-steps.false;
-      x = c.if-x-steps.false;
-      y = c.if-y-steps.false;
-      z = c.if-z-steps.false;
-      cost = c.if-cost-steps.false;
+      v = omega arith;
+      x = omega arith;
+      y = omega arith;
+      z = omega arith;
+      cost = omega arith;
     } in
     (omega (arith, read.starts.y.within), omega (arith, room.y))
 
@@ -98,11 +93,11 @@ copy-requires-4 c =
     stored c.parse_chain-reply.ensures c.in-Read.is in
     let room : Room c.in-Read.steps lent =
     record {
-      v = c.if-v-steps.false;
-      x = c.if-x-steps.false;
-      y = c.if-y-steps.false;
-      z = c.if-z-steps.false;
-      cost = c.if-cost-steps.false;
+      v = omega arith;
+      x = omega arith;
+      y = omega arith;
+      z = omega arith;
+      cost = omega arith;
     } in
     (omega (arith, read.starts.z.within), omega (arith, room.z))
 
@@ -116,11 +111,11 @@ copy_costs-requires c =
     stored c.parse_chain-reply.ensures c.in-Read.is in
     let room : Room c.in-Read.steps lent =
     record {
-      v = c.if-v-steps.false;
-      x = c.if-x-steps.false;
-      y = c.if-y-steps.false;
-      z = c.if-z-steps.false;
-      cost = c.if-cost-steps.false;
+      v = omega arith;
+      x = omega arith;
+      y = omega arith;
+      z = omega arith;
+      cost = omega arith;
     } in
     (omega (arith, read.starts.cost.within), omega (arith, room.cost))
 
@@ -134,11 +129,11 @@ returns c =
     stored c.parse_chain-reply.ensures c.in-Read.is in
     let room : Room c.in-Read.steps lent =
     record {
-      v = c.if-v-steps.false;
-      x = c.if-x-steps.false;
-      y = c.if-y-steps.false;
-      z = c.if-z-steps.false;
-      cost = c.if-cost-steps.false;
+      v = omega arith;
+      x = omega arith;
+      y = omega arith;
+      z = omega arith;
+      cost = omega arith;
     } in
     rw (c.copy.ensures, c.copy-2.ensures, c.copy-3.ensures, c.copy-4.ensures, c.copy_costs.ensures)
     (all-written _ _ _ read room)

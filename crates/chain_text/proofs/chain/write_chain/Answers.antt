@@ -1,4 +1,5 @@
 -- `chain_text::chain::write_chain` meets its contract.
+use mathlib.Core.Logic.{⊎_elim}
 use mathlib.Core.Path.{◌≡◌, sym, ◌∙◌, ap}
 use mathlib.Core.Bool.{true}
 use mathlib.Core.List.{List}
@@ -14,11 +15,6 @@ use Rattle.chain_text.specs.Columns.{Columns, columns}
 use Rattle.chain_text.specs.Text.{chain_text, steps_across, Even, write_chain}
 use Rattle.chain_text.proofs.Columns.{write-limits, write-uneven, write-even, length-even}
 use Rattle.chain_text.proofs.chain.write_chain.Goals as goal
-use Rattle.chain_text.proofs.chain.write_chain.Goals.{then-v-steps-via-then-v-steps}
-use Rattle.chain_text.proofs.chain.write_chain.Goals.{then-v-steps-via-else-v-steps+then-x-steps}
-use Rattle.chain_text.proofs.chain.write_chain.Goals.{then-v-steps-via-else-v-steps+else-x-steps+then-y-steps}
-use Rattle.chain_text.proofs.chain.write_chain.Goals.{then-v-steps-via-else-v-steps+else-x-steps+else-y-steps+then-z-steps}
-use Rattle.chain_text.proofs.chain.write_chain.Goals.{then-v-steps-via-else-v-steps+else-x-steps+else-y-steps+else-z-steps+then-cost-steps}
 
 pub returns-then-not-vertices_ok : goal.returns-then-not-vertices_ok
 returns-then-not-vertices_ok c = refuses _ _ _ (write-limits _ _ _ (sym c.vertices_ok.ensures ∙ c.if-not-vertices_ok.true))
@@ -36,13 +32,12 @@ returns-then-v-steps c =
     refuses _ _ _
     (write-uneven _ _ _ allowed
     (λ e.
-    elim c.then-v-steps.branch [
-      | then-v-steps-via-then-v-steps w ↦ w.if-v-steps.true e.v
-      | then-v-steps-via-else-v-steps+then-x-steps w ↦ w.if-x-steps.true e.x
-      | then-v-steps-via-else-v-steps+else-x-steps+then-y-steps w ↦ w.if-y-steps.true e.y
-      | then-v-steps-via-else-v-steps+else-x-steps+else-y-steps+then-z-steps w ↦ w.if-z-steps.true e.z
-      | then-v-steps-via-else-v-steps+else-x-steps+else-y-steps+else-z-steps+then-cost-steps w ↦ w.if-cost-steps.true e.cost
-    ]))
+    ⊎_elim (λ w. omega (arith, e.v, w))
+    (⊎_elim (λ w. omega (arith, e.x, w))
+    (⊎_elim (λ w. omega (arith, e.y, w))
+    (⊎_elim (λ w. omega (arith, e.z, w))
+    (λ w. omega (arith, e.cost, w)))))
+    c.then-v-steps.either))
 
 pub chain_length-requires : goal.chain_length-requires
 chain_length-requires c =
@@ -58,11 +53,11 @@ returns-then-text-chain_length c =
     let a = c.args in columns a.v.now a.x.now a.y.now a.z.now a.cost.now in
     let even : Even (c.args.vertices - fewest_vertices) cols =
     record {
-      v = c.if-v-steps.false;
-      x = c.if-x-steps.false;
-      y = c.if-y-steps.false;
-      z = c.if-z-steps.false;
-      cost = c.if-cost-steps.false;
+      v = omega arith;
+      x = omega arith;
+      y = omega arith;
+      z = omega arith;
+      cost = omega arith;
     } in
     let text : List ℕ =
     chain_text (steps_across cols) c.args.dropped in
@@ -78,11 +73,11 @@ put_chain-requires c =
     let a = c.args in columns a.v.now a.x.now a.y.now a.z.now a.cost.now in
     let even : Even (c.args.vertices - fewest_vertices) cols =
     record {
-      v = c.if-v-steps.false;
-      x = c.if-x-steps.false;
-      y = c.if-y-steps.false;
-      z = c.if-z-steps.false;
-      cost = c.if-cost-steps.false;
+      v = omega arith;
+      x = omega arith;
+      y = omega arith;
+      z = omega arith;
+      cost = omega arith;
     } in
     let text : List ℕ =
     chain_text (steps_across cols) c.args.dropped in
@@ -99,11 +94,11 @@ returns c =
     let a = c.args in columns a.v.now a.x.now a.y.now a.z.now a.cost.now in
     let even : Even (c.args.vertices - fewest_vertices) cols =
     record {
-      v = c.if-v-steps.false;
-      x = c.if-x-steps.false;
-      y = c.if-y-steps.false;
-      z = c.if-z-steps.false;
-      cost = c.if-cost-steps.false;
+      v = omega arith;
+      x = omega arith;
+      y = omega arith;
+      z = omega arith;
+      cost = omega arith;
     } in
     let text : List ℕ =
     chain_text (steps_across cols) c.args.dropped in
