@@ -1,0 +1,9 @@
+-- `host_plans::networks::thinning_check_network` meets its contract.
+use Rattle.host_plans.proofs.Numbers.{network-refused, network-accepted}
+use Rattle.host_plans.proofs.networks.thinning_check_network.Goals as goal
+
+pub returns-in-Refused : goal.returns-in-Refused
+returns-in-Refused c = network-refused _ _ c.in-Refused.is c.check_network.ensures
+
+pub returns-in-Accepted : goal.returns-in-Accepted
+returns-in-Accepted c = network-accepted _ c.in-Accepted.is c.check_network.ensures
