@@ -1,7 +1,6 @@
 // What the services reply: to a network that is checked, and to one that is planned.
 #![tactic(auto)]
 
-
 // What the network check answers.
 #[derive(Clone, Copy)]
 pub enum Acceptance {

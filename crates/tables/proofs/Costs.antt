@@ -1,4 +1,4 @@
--- The four_thirds bound: the cost of all edges of a table's network is the sum over its spans.
+-- The four-thirds bound: the cost of all edges of a table's network is the sum over its spans.
 use mathlib.Core.Path.{◌≡◌, refl, sym, ◌∙◌, ap}
 use mathlib.Core.Bool.{Bool, true, false, cond}
 use mathlib.Core.List.{List, [], ◌∷◌, ◌++◌, map, map-append}

@@ -1,5 +1,5 @@
 -- What is owed of tables, over texts, replies and buffers: a table is planned as the network that it stands for, so
--- that condition 3 (crate claim, specs/Condition.antt) holds of it; and the four_thirds bound. It holds for every text.
+-- that condition 3 (crate claim, specs/Condition.antt) holds of it; and the four-thirds bound. It holds for every text.
 use Rattle.std.specs.Prelude.{Bool, List, [], ◌∷◌, ◌++◌, ◌↔◌, ◌⊎◌, ◌≡◌, ℕ, ◌+◌, ◌*◌, ◌≤◌, ◌<◌, length, get_or, ℤ, pos, nat_abs, ◌+ℤ◌, ◌*ℤ◌, ◌≤ℤ◌}
 use Rattle.base.specs.Answer.{refused, answer, and_then}
 use Rattle.base.specs.Limits.{edge_limit, cost_limit}
