@@ -9,9 +9,8 @@ use Rattle.graph.specs.declared.Network.{Network}
 use Rattle.connection.specs.Connection.{connected, reached_count}
 use Rattle.bridges.specs.Bridge.{bridge_count}
 use Rattle.audit.specs.Answers.{audited}
-use Rattle.audit.specs.Service.{audit_text, audited_of}
+use Rattle.audit.specs.Service.{audit_text}
 use Rattle.audit.specs.declared.Answers.{Answers}
-use Rattle.audit.specs.declared.service.Audited.TheVariants.{Answered, Refused}
 
 pub audited-by : (g : Network) (K : List Bool) {b : Bool} {r k : ℕ} → b ≡ connected g K → r ≡ reached_count g K 0
     → k ≡ bridge_count g K → record { connected = b; reached = r; bridges = k } ≡ audited g K
@@ -21,11 +20,11 @@ audited-by g K eb er ek = rw (eb, er, ek)
 -- ── the service ──
 
 module _ (t l : List ℕ) where
-  pub text-refused : (k : ℕ) → load_list t l ≡ refused k → Refused k ≡ audited_of (audit_text t l)
-  unfolding audit_text audited_of and_then
-  text-refused k e = rw e
+  pub text-refused : {k : ℕ} → load_list t l ≡ refused k → refused k ≡ audit_text t l
+  unfolding audit_text and_then
+  text-refused e = rw e
 
   pub text-answered : (g : Network) (K : List Bool) (a : Answers) → load_list t l ≡ answer (g, K) → a ≡ audited g K
-      → Answered a ≡ audited_of (audit_text t l)
-  unfolding audit_text audited_of and_then
+      → answer a ≡ audit_text t l
+  unfolding audit_text and_then
   text-answered g K a e q = rw (e, q)

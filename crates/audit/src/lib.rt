@@ -12,10 +12,10 @@ use graph::Network;
 
 mod service;
 
-pub use service::{Audited, audit_list};
+pub use service::audit_list;
 
 // The answers for a list of edges.
-#[derive(Clone, Copy)]
+#[derive(Clone, Copy, Debug, PartialEq, Eq, Hash)]
 pub struct Answers {
     // Whether the listed edges join all vertices.
     pub connected: bool,

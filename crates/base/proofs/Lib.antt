@@ -10,5 +10,5 @@ pub mod Words
 pub mod LimitLaws
 pub mod Answers
 pub mod Numbered
-pub mod Exports
+pub mod Given
 pub mod Writing

@@ -1,13 +1,39 @@
 -- What a service answers, and what its buffers hold afterwards.
-use Rattle.std.specs.Prelude.{Bool, cond, List, ◌++◌, ◌≡◌, ℕ, zero, suc, leb, length, drop}
-use Rattle.base.specs.Refusals.{SHORT}
-use Rattle.base.specs.declared.reply.Reply.{Reply}
-use Rattle.base.specs.declared.reply.Reply.TheVariants.{Refused, Done}
+use Rattle.std.specs.Prelude.{Bool, cond, List, ◌++◌, ◌≡◌, ℕ, zero, suc, leb, length, drop, Result, Ok, Err}
+use Rattle.base.specs.Refusals.{FORM, VERTICES, RESERVED, ENDS, COST, DEGREE, CUT, NO_END, NO_PARTNER, NOT_ADMISSIBLE}
+use Rattle.base.specs.Refusals.{CHEAPER, NOT_DEAREST, SHORT, UNLISTED, WEIGHT, TOTAL, NOT_GIVEN}
+use Rattle.base.specs.declared.refusals.Refusal.{Refusal}
+use Rattle.base.specs.declared.refusals.Refusal.TheVariants as refusal
 
 -- a refusal by its number, or the whole of what is due
 pub data Answer (M : Type 0) : Type 0 where
   refused : ℕ → Answer M
   answer : M → Answer M
+
+-- a refusal's number
+abbrev pub number_of : Refusal → ℕ
+number_of refusal.Form = FORM
+number_of refusal.Vertices = VERTICES
+number_of refusal.Reserved = RESERVED
+number_of refusal.Ends = ENDS
+number_of refusal.Cost = COST
+number_of refusal.Degree = DEGREE
+number_of refusal.Cut = CUT
+number_of refusal.NoEnd = NO_END
+number_of refusal.NoPartner = NO_PARTNER
+number_of refusal.NotAdmissible = NOT_ADMISSIBLE
+number_of refusal.Cheaper = CHEAPER
+number_of refusal.NotDearest = NOT_DEAREST
+number_of refusal.Short = SHORT
+number_of refusal.Unlisted = UNLISTED
+number_of refusal.Weight = WEIGHT
+number_of refusal.Total = TOTAL
+number_of refusal.NotGiven = NOT_GIVEN
+
+-- what a result tells: the answer, or the refusal by its number
+abbrev pub told : {M : Type 0} → Result M Refusal → Answer M
+told (Ok m) = answer m
+told (Err r) = refused (number_of r)
 
 -- an answer made of another, where that is no refusal
 unfoldable pub and_then : {M N : Type 0} → Answer M → (M → Answer N) → Answer N
@@ -42,13 +68,13 @@ filled part (answer m) old = over (part m) old
 unfoldable pub room_in : {A : Type 0} → List A → List A → Bool
 room_in old xs = leb (length xs) (length old)
 
--- a reply by its refusal, or by the length of what was written
-unfoldable pub replied : {A : Type 0} → Answer (List A) → Reply
-replied (refused k) = Refused k
-replied (answer xs) = Done (length xs)
+-- a reply: the refusal, or the length of what was written
+unfoldable pub replied : {A : Type 0} → Answer (List A) → Answer ℕ
+replied (refused k) = refused k
+replied (answer xs) = answer (length xs)
 
 -- the reply of a service with one buffer, and the buffer afterwards
-unfoldable pub reply_of : {A : Type 0} → Answer (List A) → List A → Reply
+unfoldable pub reply_of : {A : Type 0} → Answer (List A) → List A → Answer ℕ
 reply_of a old = replied (given (room_in old) a)
 
 unfoldable pub after : {A : Type 0} → Answer (List A) → List A → List A

@@ -1,52 +1,62 @@
-// The refusals, by the numbers of documents 01 and 02; specs/Refusals.antt has the same table.
+// The refusals, by the numbers of documents 01 and 02.
+ghost use Rattle.std.specs.Prelude.{◌≡◌};
+ghost use Rattle.base.specs.Answer.{number_of};
 
-// A broken line, a wrong kind or length, missing frames, bytes left over.
-pub const FORM: u8 = 1;
+use std::error::Error;
+use std::fmt;
 
-// How many vertices there are.
-pub const VERTICES: u8 = 2;
+// Why a call is refused.
+#[derive(Clone, Copy, Debug, PartialEq, Eq, Hash)]
+pub enum Refusal {
+    // A broken line, a wrong kind or length, missing frames, bytes left over.
+    Form = 1,
+    // How many vertices there are.
+    Vertices = 2,
+    // The reserved edge, or a candidate for it, is none of the network's.
+    Reserved = 3,
+    // An edge's number or its ends.
+    Ends = 4,
+    // An edge's cost.
+    Cost = 5,
+    // A vertex without degree 4.
+    Degree = 6,
+    // A cut crossed by fewer than four edges.
+    Cut = 7,
+    // v is no end of the reserved edge.
+    NoEnd = 8,
+    // x or y is no partner at v, or they are one.
+    NoPartner = 9,
+    // x or y is not admissible.
+    NotAdmissible = 10,
+    // x costs less than y.
+    Cheaper = 11,
+    // The dropped edge is none of the last three, or cheaper than another of them.
+    NotDearest = 12,
+    // A buffer shorter than what is due to it.
+    Short = 13,
+    // A listed edge that is not the network's, or not above the one before.
+    Unlisted = 14,
+    // A span's doubled weight, or a pair of ends that is not above the one before.
+    Weight = 15,
+    // More spans than a network has edges, or weights that total another number.
+    Total = 16,
+    // z is not the third partner, or its cost is not the one after the step.
+    NotGiven = 17,
+}
 
-// The reserved edge, or a candidate for it, is none of the network's.
-pub const RESERVED: u8 = 3;
+impl Refusal {
+    // Its number.
+    pub fn number(self) -> u8
+        ensures { result ≡ number_of self }
+    {
+        self as u8
+    }
+}
 
-// An edge's number or its ends.
-pub const ENDS: u8 = 4;
+impl fmt::Display for Refusal {
+    fn fmt<W: fmt::Write>(&self, f: &mut fmt::Formatter<W>) -> fmt::Result {
+        write!(f, "refused {}", self.number())
+    }
+}
 
-// An edge's cost.
-pub const COST: u8 = 5;
-
-// A vertex without degree 4.
-pub const DEGREE: u8 = 6;
-
-// A cut crossed by fewer than four edges.
-pub const CUT: u8 = 7;
-
-// v is no end of the reserved edge.
-pub const NO_END: u8 = 8;
-
-// x or y is no partner at v, or they are one.
-pub const NO_PARTNER: u8 = 9;
-
-// x or y is not admissible.
-pub const NOT_ADMISSIBLE: u8 = 10;
-
-// x costs less than y.
-pub const CHEAPER: u8 = 11;
-
-// The dropped edge is none of the last three, or cheaper than another of them.
-pub const NOT_DEAREST: u8 = 12;
-
-// A buffer shorter than what is due to it.
-pub const SHORT: u8 = 13;
-
-// A listed edge that is not the network's, or not above the one before.
-pub const UNLISTED: u8 = 14;
-
-// A span's doubled weight, or a pair of ends that is not above the one before.
-pub const WEIGHT: u8 = 15;
-
-// More spans than a network has edges, or weights that total another number.
-pub const TOTAL: u8 = 16;
-
-// z is not the third partner, or its cost is not the one after the step.
-pub const NOT_GIVEN: u8 = 17;
+impl Error for Refusal {}

@@ -11,7 +11,7 @@ use Rattle.graph.specs.Network.{kept}
 use Rattle.base.specs.Columns.{at}
 use Rattle.forest.specs.Forest.{DepthFirst}
 use Rattle.forest.specs.declared.Forest.{Forest}
-use Rattle.bridges.specs.LowPoints.{upper, lower, Own, fallen, noted, BackEdge, Points, Noted}
+use Rattle.bridges.specs.LowPoints.{upper, lower, fallen, noted, BackEdge, Points, Noted}
 use Rattle.bridges.proofs.Falling.{fallen-at, points-fall}
 
 module _ (low high number edge points : List ℕ) (e : ℕ) {k : ℕ} (lowers : k ≡ lower low high number e) where
@@ -42,32 +42,21 @@ module _ {low high : List ℕ} {K : List Bool} {m : ℕ} where
     passes_up = w.passes_up;
   }
 
-  module _ {number edge points : List ℕ} where
-    -- no edge is noted yet
-    pub noted-none : Own points → Noted low high K m number edge 0 points
-    noted-none w n t f p q = record {
-      long = w.long;
-      own = λ i h. omega (arith, w.own i h);
-      real = λ i h l. absurd (omega (arith, w.own i (omega (arith, f.few))));
-      reaches = λ e h. absurd (omega arith);
-      passes_up = λ k e h l. absurd (omega arith);
-    }
+  module _ {number edge points : List ℕ} {e : ℕ} (w : Noted low high K m number edge e points) where
+    pub noted-unlisted : kept K e ≡ false → Noted low high K m number edge (e + 1) points
+    noted-unlisted h n t f p q = points-reach (w n t f p q) (λ b. never (sym h ∙ b.listed))
 
-    module _ {e : ℕ} (w : Noted low high K m number edge e points) where
-      pub noted-unlisted : kept K e ≡ false → Noted low high K m number edge (e + 1) points
-      noted-unlisted h n t f p q = points-reach (w n t f p q) (λ b. never (sym h ∙ b.listed))
-
-      pub noted-listed : e < m → kept K e ≡ true → {next : List ℕ} → next ≡ noted low high number edge points e
-          → Noted low high K m number edge (e + 1) next
-      noted-listed l h r n t f p q =
-          let k = lower low high t.number e in
-          let i = upper low high t.number e in
-          let before = w n t f p q in
-          rw (r, ← p, ← q) (elim (ℕ_discrete (at t.edge k) e) [
-            | yes tree ↦ rw (noted-tree _ _ _ _ _ _ refl tree) (points-reach before (λ b. absurd (b.back tree)))
-            | no back ↦
-                let edge : BackEdge low high K m t e = record { number = l; listed = h; back = back } in
-                let here = points-fall before k i (λ less placed.
-                (e, record { edge = edge; start = omega arith; inside = f.trees.own k placed }, refl)) in
-                rw (noted_back _ _ _ _ _ _ refl back refl) (points-reach here (λ b. fallen-at points k i))
-          ])
+    pub noted-listed : e < m → kept K e ≡ true → {next : List ℕ} → next ≡ noted low high number edge points e
+        → Noted low high K m number edge (e + 1) next
+    noted-listed l h r n t f p q =
+        let k = lower low high t.number e in
+        let i = upper low high t.number e in
+        let before = w n t f p q in
+        rw (r, ← p, ← q) (elim (ℕ_discrete (at t.edge k) e) [
+          | yes tree ↦ rw (noted-tree _ _ _ _ _ _ refl tree) (points-reach before (λ b. absurd (b.back tree)))
+          | no back ↦
+              let edge : BackEdge low high K m t e = record { number = l; listed = h; back = back } in
+              let here = points-fall before k i (λ less placed.
+              (e, record { edge = edge; start = omega arith; inside = f.trees.own k placed }, refl)) in
+              rw (noted_back _ _ _ _ _ _ refl back refl) (points-reach here (λ b. fallen-at points k i))
+        ])

@@ -1,7 +1,7 @@
 -- Laws of raising places, one by one.
 use mathlib.Core.Bool.{Bool, true, false, cond}
 use mathlib.Core.List.{List}
-use mathlib.Core.Path.{◌≡◌, subst}
+use mathlib.Core.Path.{◌≡◌}
 use Prim.Native.Nat.{ℕ, zero, suc, ◌-◌, ◌≤◌, ◌<◌}
 use native.Mathlib.Decide.{ℕ_discrete, dec_lt}
 use native.Mathlib.Omega.{arith}
@@ -133,10 +133,6 @@ module _ {low high : List ℕ} {K : List Bool} {m n : ℕ} {t : Forest} (f : Dep
           omega (arith, fallen-at points parent (at points (k - 1)), point-low w (k - 1) (omega arith) e from))
 
 module _ {parent : List ℕ} {count : ℕ} {points : List ℕ} where
-  -- no place is raised yet
-  pub raised-none : Raised parent count points count points
-  raised-none low high K m n t f p q ends w = subst (λ left. Points low high K m n t f m left points) q w
-
   pub raised-next : {k : ℕ} {points' : List ℕ} → Raised parent count points k points' → 0 < k → k ≤ count
       → {next : List ℕ} → next ≡ raised parent points' (k - 1) → Raised parent count points (k - 1) next
   raised-next {k} w l h r low high K m n t f p q ends v =

@@ -22,23 +22,7 @@ pub fn bridge_count(network: Network, listed: [bool; EDGE_LIMIT], table: Inciden
     let forest = Forest::of(network, table);
     let mut low_points = [0u16; VERTEX_LIMIT];
     points::begin(&mut low_points);
-    points::note_all(
-        &network.low,
-        &network.high,
-        &listed,
-        network.edges,
-        &forest.number,
-        &forest.edge,
-        &mut low_points,
-    );
-    points::raise_all(&forest.parent, forest.count, &mut low_points);
-    points::count_found(
-        &network.low,
-        &network.high,
-        &listed,
-        network.edges,
-        &forest.number,
-        &forest.edge,
-        &low_points,
-    )
+    points::note_all(&network, &forest, &listed, &mut low_points);
+    points::raise_all(&forest, &mut low_points);
+    points::count_found(&network, &forest, &listed, &low_points)
 }

@@ -13,7 +13,6 @@ use Rattle.base.specs.Answer.{Answer, refused, answer, and_then, over, reply_of,
 use Rattle.base.specs.Columns.{at}
 use Rattle.base.specs.Refusals.{RESERVED}
 use Rattle.base.specs.Words.{Words}
-use Rattle.base.specs.declared.reply.Reply.TheVariants.{Done}
 use Rattle.base.proofs.Answers.{then-refused, then-answer, cond-answered, refuses, fits, short}
 use Rattle.base.proofs.Bools.{no_answer}
 use Rattle.base.proofs.Words.{below_at}
@@ -192,7 +191,7 @@ one-refuses t rs g e bad = go (are_edges g.edges rs) refl
 
 -- ── the empty list ──
 empty-list : (t costs : List ℕ) (g : Network) → accept_network t ≡ answer g
-    → (reply_of (candidates_text t []) costs ≡ Done 0) × (after (candidates_text t []) costs ≡ costs)
+    → (reply_of (candidates_text t []) costs ≡ answer 0) × (after (candidates_text t []) costs ≡ costs)
 unfolding are_edges candidates_costs over
 empty-list t costs g e =
     let w = fits (candidates_text t []) costs [] (costs-answered t [] g e refl) (omega arith) in (sym w.0, sym w.1)
@@ -214,6 +213,6 @@ candidates-claim =
           let w = short (candidates_text t rs) costs text x (omega arith) in (sym w.0, sym w.1);
       written = λ t rs text costs x l.
           let n = counted t rs text x in
-          let w = fits (candidates_text t rs) costs text x (omega arith) in (sym w.0 ∙ ap Done n, sym w.1);
+          let w = fits (candidates_text t rs) costs text x (omega arith) in (sym w.0 ∙ ap answer n, sym w.1);
       none = empty-list;
     }

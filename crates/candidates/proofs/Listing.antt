@@ -1,5 +1,6 @@
 -- Candidates one after the other: whether all are edges, and the costs that are left to write.
-use mathlib.Core.Path.{◌≡◌, sym, ◌∙◌, ap}
+use mathlib.Core.Path.{◌≡◌, refl, sym, ◌∙◌, ap}
+use Rattle.std.specs.List.{list_all}
 use mathlib.Core.Bool.{true, false, ◌&&◌}
 use mathlib.Core.List.{List, [], ◌∷◌, ◌++◌}
 use Prim.Native.Nat.{ℕ, zero, suc, ◌+◌, ◌*◌, ◌≤◌, ◌<◌}
@@ -10,7 +11,7 @@ use lib.Dec.{ltb}
 use lib.ListN.{length, take, drop, get_or, length-append, drop_of_length-le}
 use lib.Seq.{drop_at, drop-cons, drop-drop, take_at}
 use native.Mathlib.Nat.{zero-mul}
-use borrow.Author.Tests.{ltb-true, lt-ltb, le-ltb}
+use borrow.Author.Tests.{ltb-true, lt-ltb}
 use Rattle.base.specs.Columns.{at}
 use Rattle.base.specs.Words.{AllBelow}
 use Rattle.base.proofs.Bools.{never, and_left, and_right}
@@ -39,21 +40,11 @@ edges-bad n (r ∷ rs) h = elim (dec_lt r n) [
   | no l ↦ (zero, omega arith, omega arith)
 ]
 
-module _ (n : ℕ) (rs : List ℕ) (i : ℕ) (h : i < length rs) where
-  edges-next : are_edges n (drop i rs) ≡ (ltb (get_or rs i 0) n && are_edges n (drop (i + 1) rs))
-  unfolding are_edges
-  edges-next = rw (add-one, drop-cons rs i 0)
-
-  -- a number that is none of the edges ends the test, and one that is leaves it to the later ones
-  pub edges-not : n ≤ get_or rs i 0 → are_edges n (drop i rs) ≡ false
-  edges-not l = rw (edges-next, le-ltb (get_or rs i 0) n l)
-
-  pub edges-on : get_or rs i 0 < n → are_edges n (drop (i + 1) rs) ≡ are_edges n (drop i rs)
-  edges-on l = rw (edges-next, lt-ltb (get_or rs i 0) n l)
-
-pub edges-end : (n : ℕ) (rs : List ℕ) (i : ℕ) → length rs ≤ i → are_edges n (drop i rs) ≡ true
+-- the test of one after the other is that of the list
+pub all-edges : (n : ℕ) (rs : List ℕ) → list_all (λ r. ltb r n) rs ≡ are_edges n rs
 unfolding are_edges
-edges-end n rs i h = rw (drop_of_length-le rs h)
+all-edges n [] = refl
+all-edges n (r ∷ rs) = ap (λ b. ltb r n && b) (all-edges n rs)
 
 -- ── the costs of their plans ──
 module _ (g : Network) (rs : List ℕ) (i : ℕ) where

@@ -4,7 +4,6 @@ use Rattle.base.specs.Answer.{Answer, refused, answer, and_then, over, reply_of,
 use Rattle.base.specs.Columns.{at}
 use Rattle.base.specs.Refusals.{RESERVED, SHORT}
 use Rattle.base.specs.Words.{Words}
-use Rattle.base.specs.declared.reply.Reply.TheVariants.{Refused, Done}
 use Rattle.frame.specs.Table.{COSTS, line_length}
 use Rattle.graph.specs.Network.{all_but_reserved}
 use Rattle.graph.specs.declared.Network.{Network}
@@ -65,16 +64,16 @@ pub record CandidatesClaim : Type 0 where
   pub network_first : (t rs : List ℕ) (k : ℕ) → accept_network t ≡ refused k → candidates_text t rs ≡ refused k
   -- 'and before 13, and nothing is written', whatever buffer is lent
   pub nothing_written : (t rs : List ℕ) (k : ℕ) → candidates_text t rs ≡ refused k → (costs : List ℕ)
-      → (reply_of (candidates_text t rs) costs ≡ Refused k) × (after (candidates_text t rs) costs ≡ costs)
+      → (reply_of (candidates_text t rs) costs ≡ refused k) × (after (candidates_text t rs) costs ≡ costs)
   -- 13 comes exactly from a buffer with less room than all frames need, and leaves it as it was
   pub short : (t rs text costs : List ℕ) → candidates_text t rs ≡ answer text → length costs < length rs * frame_length
-      → (reply_of (candidates_text t rs) costs ≡ Refused SHORT) × (after (candidates_text t rs) costs ≡ costs)
+      → (reply_of (candidates_text t rs) costs ≡ refused SHORT) × (after (candidates_text t rs) costs ≡ costs)
   pub written : (t rs text costs : List ℕ) → candidates_text t rs ≡ answer text → length rs * frame_length ≤ length costs
-      → (reply_of (candidates_text t rs) costs ≡ Done (length rs * frame_length))
+      → (reply_of (candidates_text t rs) costs ≡ answer (length rs * frame_length))
       × (after (candidates_text t rs) costs ≡ over text costs)
   -- 'An empty list writes nothing and succeeds', into an empty buffer too
   pub none : (t costs : List ℕ) (g : Network) → accept_network t ≡ answer g
-      → (reply_of (candidates_text t []) costs ≡ Done 0) × (after (candidates_text t []) costs ≡ costs)
+      → (reply_of (candidates_text t []) costs ≡ answer 0) × (after (candidates_text t []) costs ≡ costs)
 
 -- ── wrong programs and definitions that the claim, or a promise by its words, shuts out: each has a must-fail edit ──
 --

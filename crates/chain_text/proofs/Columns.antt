@@ -10,9 +10,10 @@ use lib.IntN.{ℤ, pos}
 use lib.ListN.{length, drop, drop_of_length-le, length-map}
 use lib.Seq.{drop-cons}
 use borrow.Author.Tests.{eq-eqb, eqb-true}
-use Rattle.base.specs.Answer.{refused, answer}
+use Rattle.base.specs.Answer.{refused, answer, over, reply_of, after}
 use Rattle.base.specs.Limits.{fewest_vertices, vertices_ok}
-use Rattle.base.specs.Refusals.{FORM, VERTICES}
+use Rattle.base.specs.Refusals.{FORM, VERTICES, SHORT}
+use Rattle.base.proofs.Answers.{short, fits}
 use Rattle.base.proofs.Bools.{and_left, and_right}
 use Rattle.frame.specs.Table.{STEP, DROPPED}
 use Rattle.frame.specs.Line.{line_of}
@@ -118,9 +119,9 @@ module _ (c : Columns) (e : Even (length c.v) c) (d i : ℕ) where
 
   -- the line of the step at a place, or of the ending, is left to write
   module _ {whole old out : List ℕ} {at : ℕ} (w : Written whole (text_from c d i) old out at) where
-    pub step_left : i < length c.v
-        → Written whole (line_of STEP (of_step (step_at c i)) ++ text_from c d (i + 1)) old out at
-    step_left h = rw (text-next h) at w
+    pub step_left : i < length c.v → {s : Step} → s ≡ step_at c i
+        → Written whole (line_of STEP (of_step s) ++ text_from c d (i + 1)) old out at
+    step_left h q = rw q (rw (text-next h) at w)
 
     pub ending-left : length c.v ≤ i
         → Written whole (line_of DROPPED (of_dropped (record { edge = d })) ++ []) old out at
@@ -186,3 +187,21 @@ even-columns e = each (λ A part. eqb-true _ _) (every_true _ e)
 -- how many bytes it has
 pub length-even : {k : ℕ} {c : Columns} → Even k c → (d : ℕ) → length (chain_text (steps_across c) d) ≡ chain_length k
 length-even {k} {c} e d = length-chain (steps_across c) d ∙ ap chain_length (length-steps e)
+
+-- and what is replied where a buffer is too short for it, and where it is written
+module _ (n : ℕ) {c : Columns} (e : Even (n - fewest_vertices) c) (d : ℕ) {size : ℕ}
+    (s : size ≡ chain_length (n - fewest_vertices)) (out : List ℕ) where
+  pub write-room : size ≤ length out → length (chain_text (steps_across c) d) ≤ length out
+  write-room h = omega (arith, s, length-even e d)
+
+  module _ (h : vertices_ok n ≡ true) where
+    pub write-short : length out < size
+        → (refused SHORT ≡ reply_of (write_chain n c d) out) × (out ≡ after (write_chain n c d) out)
+    write-short l =
+        short _ out (chain_text (steps_across c) d) (write-even n c d h e) (omega (arith, s, length-even e d))
+
+    pub write-fits : size ≤ length out → {count : ℕ} {new : List ℕ}
+        → let text = chain_text (steps_across c) d in (count ≡ length text) × (new ≡ over text out)
+        → (answer count ≡ reply_of (write_chain n c d) out) × (new ≡ after (write_chain n c d) out)
+    write-fits l w =
+        rw (w.0, w.1) (fits _ out (chain_text (steps_across c) d) (write-even n c d h e) (write-room l))

@@ -1,15 +1,19 @@
 -- A chain text that is parsed into working columns, by what is found: its vertices, its steps, its ending.
 -- Assumes nothing.
-use mathlib.Core.Path.{◌≡◌, refl, sym, ap}
+use mathlib.Core.Path.{◌≡◌, refl, ap}
 use mathlib.Core.Bool.{Bool, true, false, cond}
 use mathlib.Core.List.{List, [], ◌∷◌}
 use Prim.Native.Nat.{ℕ, zero, suc, ◌*◌, ◌-◌, ◌≤◌, ◌<◌}
 use native.Mathlib.Omega.{arith}
 use lib.ListN.{length, drop, length-drop}
 use borrow.Author.Tests.{le-leb, lt-leb}
-use Rattle.base.specs.Answer.{Answer, refused, answer, and_then, refusal_of}
+use Rattle.std.proofs.Common.{Ok, Err}
+use Rattle.base.specs.Answer.{Answer, refused, answer, number_of, and_then, refusal_of}
 use Rattle.base.specs.Limits.{fewest_vertices, vertices_ok}
-use Rattle.base.specs.Refusals.{FORM, VERTICES}
+use Rattle.base.specs.Refusals.{FORM}
+use Rattle.base.specs.declared.refusals.Refusal.{Refusal}
+use Rattle.base.specs.declared.refusals.Refusal.TheVariants.{Vertices}
+use Rattle.base.proofs.Answers.{number-above}
 use Rattle.base.proofs.Bools.{no_answer}
 use Rattle.base.proofs.Numbered.{Numbered, answered, refused-by, then-meeting}
 use Rattle.frame.specs.Table.{STEP, DROPPED, line_length}
@@ -22,11 +26,10 @@ use Rattle.frame.proofs.Runs.{Next, none_read}
 use Rattle.chain_text.specs.Columns.{Columns, Each}
 use Rattle.chain_text.specs.Text.{Meaning, steps_in, ending_in, chain_in, read_chain, read_reply}
 use Rattle.chain_text.specs.Working.{StepsRead, ChainRead}
-use Rattle.chain_text.specs.declared.chain.ReadChain.TheVariants.{Refused, Read}
 
 -- the ending at a place
 module _ (text : List ℕ) (at : ℕ) where
-  pub ending-broken : refused FORM ≡ read_line DROPPED text at → refused FORM ≡ ending_in (drop at text)
+  pub ending-broken : {j : ℕ} → refused j ≡ read_line DROPPED text at → refused FORM ≡ ending_in (drop at text)
   unfolding ending_in
   ending-broken e = rw (none_read DROPPED at text e)
 
@@ -78,54 +81,53 @@ both a b = and_then a (λ ss. and_then b (λ d. answer (record { steps = ss; dro
 
 -- a chain for n vertices, and columns that are to hold it
 module _ (n : ℕ) (text : List ℕ) (old : Columns) where
-  pub out-of-limits : vertices_ok n ≡ false → ChainRead (read_chain n text) old old (Refused VERTICES)
+  pub out-of-limits : vertices_ok n ≡ false → ChainRead (read_chain n text) old old (Err Vertices)
   unfolding read_chain read_reply
   out-of-limits e =
       rw e (record { reply = refl; held = record { v = refl; x = refl; y = refl; z = refl; cost = refl } })
 
-  module _ {new : Columns} {r : ℕ} (h : vertices_ok n ≡ true)
-      (s : StepsRead (steps_in (n - fewest_vertices) text) old new r) where
+  module _ (h : vertices_ok n ≡ true) where
     due : {line : ℕ} → line ≡ line_length STEP
         → read_chain n text
         ≡ both (steps_in (n - fewest_vertices) text) (ending_in (drop ((n - fewest_vertices) * line) text))
     unfolding read_chain chain_in
     due p = rw (h, p)
 
-    pub steps-refused : 0 < r → ChainRead (read_chain n text) old new (Refused r)
+    pub steps-refused : {new : Columns} {q : Refusal} → StepsRead (steps_in (n - fewest_vertices) text) old new (Err q)
+        → ChainRead (read_chain n text) old new (Err q)
     unfolding and_then refusal_of read_reply
-    steps-refused l =
+    steps-refused {new} {q} s =
         let ending = ending_in (drop ((n - fewest_vertices) * line_length STEP) text) in
         rw (due refl) (go (steps_in (n - fewest_vertices) text) ending s)
       where
-        go : (a : Answer (List Step)) (b : Answer ℕ) → StepsRead a old new r → ChainRead (both a b) old new (Refused r)
-        go (refused k) b p = record { reply = ap Refused p.reply; held = p.held }
-        go (answer ss) b p = absurd (omega (arith, p.reply))
+        go : (a : Answer (List Step)) (b : Answer ℕ) → StepsRead a old new (Err q)
+            → ChainRead (both a b) old new (Err q)
+        go (refused k) b p = record { reply = ap refused p.reply; held = p.held }
+        go (answer ss) b p = absurd (omega (arith, p.reply, number-above q))
 
     -- the steps are there: what stands behind them
-    module _ (l : r ≤ 0) {line : ℕ} (size : line ≡ line_length STEP) where
-      pub ending-refused : refused FORM ≡ ending_in (drop ((n - fewest_vertices) * line) text)
+    module _ {new : Columns} (s : StepsRead (steps_in (n - fewest_vertices) text) old new (Ok tt)) {line : ℕ}
+        (size : line ≡ line_length STEP) where
+      pub ending-refused : {q : Refusal} → refused (number_of q) ≡ ending_in (drop ((n - fewest_vertices) * line) text)
           → Each (λ A part. length (part new) ≡ length (part old))
-          → ChainRead (read_chain n text) old new (Refused FORM)
+          → ChainRead (read_chain n text) old new (Err q)
       unfolding and_then read_reply refusal_of
-      ending-refused e kept = rw (due size, ← e) (go (steps_in (n - fewest_vertices) text) refl s)
+      ending-refused {q} e kept = rw (due size, ← e) (go (steps_in (n - fewest_vertices) text) refl s)
         where
-          go : (a : Answer (List Step)) → steps_in (n - fewest_vertices) text ≡ a → StepsRead a old new r
-              → ChainRead (both a (refused FORM)) old new (Refused FORM)
-          go (refused k) q p =
-              absurd (omega (arith, p.reply, ((steps-numbered (n - fewest_vertices) text).number k q).0))
-          go (answer ss) q p = record { reply = refl; held = kept }
+          go : (a : Answer (List Step)) → steps_in (n - fewest_vertices) text ≡ a → StepsRead a old new (Ok tt)
+              → ChainRead (both a (refused (number_of q))) old new (Err q)
+          go (refused k) e p =
+              absurd (omega (arith, p.reply, ((steps-numbered (n - fewest_vertices) text).number k e).0))
+          go (answer ss) e p = record { reply = refl; held = kept }
 
       pub chain-read : {d : ℕ} → answer d ≡ ending_in (drop ((n - fewest_vertices) * line) text)
-          → ChainRead (read_chain n text) old new (Read (n - fewest_vertices) d)
+          → ChainRead (read_chain n text) old new (Ok (record { steps = n - fewest_vertices; dropped = d }))
       unfolding and_then read_reply refusal_of
       chain-read {d} e = rw (due size, ← e) (go (steps_in (n - fewest_vertices) text) refl s)
         where
-          go : (a : Answer (List Step)) → steps_in (n - fewest_vertices) text ≡ a → StepsRead a old new r
-              → ChainRead (both a (answer d)) old new (Read (n - fewest_vertices) d)
+          go : (a : Answer (List Step)) → steps_in (n - fewest_vertices) text ≡ a → StepsRead a old new (Ok tt)
+              → ChainRead (both a (answer d)) old new (Ok (record { steps = n - fewest_vertices; dropped = d }))
           go (refused k) q p =
               absurd (omega (arith, p.reply, ((steps-numbered (n - fewest_vertices) text).number k q).0))
           go (answer ss) q p =
-              record {
-                reply = ap (λ (k : ℕ). Read k d) (sym (steps-count (n - fewest_vertices) text ss q));
-                held = p.held;
-              }
+              record { reply = rw (steps-count (n - fewest_vertices) text ss q); held = p.held }

@@ -2,13 +2,15 @@
 -- Assumes nothing.
 use mathlib.Core.Path.{◌≡◌, refl, sym, ◌∙◌}
 use mathlib.Core.List.{List, [], ◌∷◌, ◌++◌}
-use Prim.Native.Nat.{ℕ, suc, ◌+◌, ◌-◌, ◌≤◌, ◌<◌}
+use Prim.Native.Nat.{ℕ, suc, ◌+◌, ◌-◌, ◌^◌, ◌≤◌, ◌<◌}
 use native.Mathlib.Omega.{arith}
 use native.Mathlib.Nat.{sub-zero}
 use lib.ListN.{length, drop, set, length-append}
 use lib.Seq.{drop-drop}
+use Rattle.std.proofs.Common.{Ok, Err}
 use Rattle.base.specs.Answer.{refused, answer, refusal_of}
 use Rattle.base.specs.Refusals.{FORM}
+use Rattle.base.specs.declared.refusals.Refusal.TheVariants.{Form}
 use Rattle.base.proofs.Held.{Storing, storing-none, part-next}
 use Rattle.base.proofs.Taking.{first, behind, behind-none, behind-next, behind-refused, behind-all}
 use Rattle.frame.specs.Table.{STEP}
@@ -21,6 +23,7 @@ use Rattle.chain_text.specs.Columns.{Columns, columns, columns_of, Each}
 use Rattle.chain_text.specs.Text.{steps_in}
 use Rattle.chain_text.specs.Working.{Room, StepsRead}
 use Rattle.chain_text.proofs.Columns.{each}
+use Rattle.chain_text.proofs.Texts.{step-short}
 
 -- the first line of what is left: a step, or none
 module _ (k : ℕ) (text : List ℕ) (at : ℕ) where
@@ -29,9 +32,14 @@ module _ (k : ℕ) (text : List ℕ) (at : ℕ) where
   unfolding steps_in first
   left-next f next e = rw (e.is, e.fields, e.place, drop-drop)
 
-  left-broken : refused FORM ≡ read_line STEP text at → steps_in (suc k) (drop at text) ≡ refused FORM
+  left-broken : {j : ℕ} → refused j ≡ read_line STEP text at → steps_in (suc k) (drop at text) ≡ refused FORM
   unfolding steps_in
   left-broken e = rw (none_read STEP at text e)
+
+-- the numbers of a step that is read have 16 bits
+pub step-words : {text : List ℕ} {at : ℕ} {f : Fields} {next : ℕ} → Next STEP at text f next
+    → {s : Step} → s ≡ step_of f → (s.v < 2 ^ 16) × (s.x < 2 ^ 16) × (s.y < 2 ^ 16) × (s.z < 2 ^ 16)
+step-words e q = rw q (step-short _ e.fits)
 
 -- i of k steps are taken: they and those that are left make all of them, and each column starts with its part of them
 pub record Reading (k : ℕ) (text : List ℕ) (old new : Columns) (at i : ℕ) : Type 0 where
@@ -64,7 +72,7 @@ module _ {k : ℕ} {text : List ℕ} {old new : Columns} {at i : ℕ} (r : Readi
     one-due : k - i ≡ suc (k - (i + 1))
     one-due = omega arith
 
-    pub reading-broken : refused FORM ≡ read_line STEP text at → StepsRead (steps_in k text) old new FORM
+    pub reading-broken : {j : ℕ} → refused j ≡ read_line STEP text at → StepsRead (steps_in k text) old new (Err Form)
     unfolding refusal_of
     reading-broken e =
         let whole : refused FORM ≡ steps_in k text =
@@ -93,7 +101,7 @@ module _ {k : ℕ} {text : List ℕ} {old new : Columns} {at i : ℕ} (r : Readi
         }
 
   -- all are taken
-  pub reading-all : k ≤ i → StepsRead (steps_in k text) old new 0
+  pub reading-all : k ≤ i → StepsRead (steps_in k text) old new (Ok tt)
   unfolding refusal_of steps_in
   reading-all h =
       let none-due : k - i ≡ 0 = omega arith in

@@ -1,15 +1,15 @@
 -- Chain texts: what a text means for n vertices, and the text of a meaning.
-use Rattle.std.specs.Prelude.{◌≡◌, Bool, cond, ◌&&◌, List, [], ◌∷◌, ◌++◌, ℕ, zero, suc, ◌+◌, ◌*◌, ◌-◌, leb, eqb, length, drop, ℤ}
-use Rattle.base.specs.Answer.{Answer, refused, answer, and_then, given, filled, room_in}
+use Rattle.std.specs.Prelude.{◌≡◌, Bool, cond, ◌&&◌, List, [], ◌∷◌, ◌++◌, ℕ, zero, suc, ◌+◌, ◌*◌, ◌-◌, leb, eqb, length, drop, ℤ, Result}
+use Rattle.base.specs.Answer.{Answer, refused, answer, told, and_then, given, filled, room_in}
 use Rattle.base.specs.Limits.{vertices_ok, fewest_vertices}
 use Rattle.base.specs.Refusals.{FORM, VERTICES}
+use Rattle.base.specs.declared.refusals.Refusal.{Refusal}
 use Rattle.frame.specs.Table.{STEP, DROPPED, line_length}
 use Rattle.frame.specs.Line.{is_line, fields_of, line_of}
 use Rattle.frame.specs.Kinds.{step_of, of_step, dropped_of, of_dropped}
 use Rattle.frame.specs.declared.kinds.Step.{Step}
 use Rattle.chain_text.specs.Columns.{Columns, columns_of, Each, every}
 use Rattle.chain_text.specs.declared.chain.ReadChain.{ReadChain}
-use Rattle.chain_text.specs.declared.chain.ReadChain.TheVariants.{Refused, Read}
 
 -- the meaning of a chain text: the steps, and the edge that the ending drops
 pub record Meaning : Type 0 where
@@ -46,9 +46,9 @@ unfoldable pub read_chain : ℕ → List ℕ → Answer Meaning
 read_chain n t = cond (vertices_ok n) (chain_in (n - fewest_vertices) t) (refused VERTICES)
 
 -- the reader's reply
-unfoldable pub read_reply : Answer Meaning → ReadChain
-read_reply (refused k) = Refused k
-read_reply (answer m) = Read (length m.steps) m.dropped
+unfoldable pub read_reply : Answer Meaning → Answer ReadChain
+read_reply (refused k) = refused k
+read_reply (answer m) = answer (record { steps = length m.steps; dropped = m.dropped })
 
 -- whether columns have room for the steps, each for its part of them
 unfoldable pub room_for : Columns → Meaning → Bool
@@ -59,8 +59,9 @@ unfoldable pub read_given : ℕ → List ℕ → Columns → Answer Meaning
 read_given n t c = given (room_for c) (read_chain n t)
 
 -- what reading a text into columns comes to: all of them are written, or none
-pub record ReadInto (n : ℕ) (t : List ℕ) (old : Columns) (reply : ReadChain) (new : Columns) : Type 0 where
-  pub replies : reply ≡ read_reply (read_given n t old)
+pub record ReadInto (n : ℕ) (t : List ℕ) (old : Columns) (reply : Result ReadChain Refusal)
+    (new : Columns) : Type 0 where
+  pub replies : told reply ≡ read_reply (read_given n t old)
   pub fills : Each (λ A part. part new ≡ filled (λ m. part (in_columns m)) (read_given n t old) (part old))
 
 -- ── writing ──

@@ -1,13 +1,11 @@
 -- What the functions over working columns are asked, and what they leave in the columns.
-use Rattle.std.specs.Prelude.{◌≡◌, List, ℕ, ◌≤◌, ◌<◌, length, get_or, pos}
-use Rattle.base.specs.Answer.{Answer, refused, answer, refusal_of, Held}
-use Rattle.base.specs.Refusals.{FORM}
+use Rattle.std.specs.Prelude.{◌≡◌, List, ℕ, ◌≤◌, ◌<◌, length, get_or, pos, Result}
+use Rattle.base.specs.Answer.{Answer, told, refusal_of, Held}
+use Rattle.base.specs.declared.refusals.Refusal.{Refusal}
 use Rattle.frame.specs.declared.kinds.Step.{Step}
 use Rattle.chain_text.specs.Columns.{Columns, columns_of, Each}
 use Rattle.chain_text.specs.Text.{Meaning, in_columns, read_reply}
 use Rattle.chain_text.specs.declared.chain.ReadChain.{ReadChain}
-use Rattle.chain_text.specs.declared.chain.ReadEnding.{ReadEnding}
-use Rattle.chain_text.specs.declared.chain.ReadEnding.TheVariants.{Drops, Refused}
 
 -- columns that have room for k steps
 abbrev pub Room : ℕ → Columns → Type 0
@@ -18,18 +16,13 @@ abbrev pub AllHeld : {M : Type 0} → (M → Columns) → Answer M → Columns �
 AllHeld of a old new = Each (λ A part. Held (λ m. part (of m)) a (part old) (part new))
 
 -- what reading steps into working columns replies, and what the columns hold
-pub record StepsRead (a : Answer (List Step)) (old new : Columns) (r : ℕ) : Type 0 where
-  pub reply : r ≡ refusal_of a
+pub record StepsRead (a : Answer (List Step)) (old new : Columns) (r : Result (Unit {0}) Refusal) : Type 0 where
+  pub reply : refusal_of (told r) ≡ refusal_of a
   pub held : AllHeld columns_of a old new
 
--- what each case of a ReadEnding says: the dropped edge, or refusal 1
-abbrev pub ending_answer : ReadEnding → Answer ℕ
-ending_answer (Drops d) = answer d
-ending_answer Refused = refused FORM
-
 -- what reading a chain text into working columns replies, and what the columns hold
-pub record ChainRead (a : Answer Meaning) (old new : Columns) (r : ReadChain) : Type 0 where
-  pub reply : r ≡ read_reply a
+pub record ChainRead (a : Answer Meaning) (old new : Columns) (r : Result ReadChain Refusal) : Type 0 where
+  pub reply : told r ≡ read_reply a
   pub held : AllHeld in_columns a old new
 
 -- columns that have a step at a place

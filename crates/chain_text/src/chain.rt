@@ -1,32 +1,23 @@
 // Chain texts: the steps and the ending of a chain, read and written.
 ghost use Rattle.std.specs.Prelude.{◌≡◌, ◌≤◌, length, drop};
-ghost use Rattle.base.specs.Answer.{over, reply_of, after};
+ghost use Rattle.base.specs.Answer.{told, over, reply_of, after};
 ghost use Rattle.base.specs.Limits.{step_limit};
 ghost use Rattle.chain_text.specs.Columns.{columns};
 ghost use Rattle.chain_text.specs.Text.{steps_in, ending_in, read_chain, ReadInto, steps_of, chain_text, chain_length};
 ghost use Rattle.chain_text.specs.Text.{write_chain};
-ghost use Rattle.chain_text.specs.Working.{Room, StepsRead, ending_answer, ChainRead, StepThere, step_at};
+ghost use Rattle.chain_text.specs.Working.{Room, StepsRead, ChainRead, StepThere, step_at};
 
-use base::{
-    FEWEST_VERTICES, FORM, Reply, SHORT, STEP_LIMIT, VERTICES, copy, copy_costs, vertices_ok,
-};
-use frame::{DROPPED, Dropped, Line, STEP, Step, length_of, put_line, read_line};
+use base::{FEWEST_VERTICES, Refusal, STEP_LIMIT, copy, vertices_ok};
+use frame::{Dropped, Kind, Step, length_of, put_line, read_line};
 
-// What a reader of chain texts replies: how many steps a chain has and the edge that its ending drops, or a refusal.
-#[derive(Clone, Copy)]
-pub enum ReadChain {
-    Refused(u8),
-    Read { steps: usize, dropped: u16 },
+// What a chain text says, but for its steps: how many they are, and the edge that the ending drops.
+#[derive(Clone, Copy, Debug, PartialEq, Eq)]
+pub struct ReadChain {
+    pub steps: usize,
+    pub dropped: u16,
 }
 
-// What stands at the place of an ending: the edge that it drops, or no ending, or one with something behind it.
-#[derive(Clone, Copy)]
-enum ReadEnding {
-    Drops(u16),
-    Refused,
-}
-
-// Reads so many steps from the start of a text into columns. Answers the refusal, or 0.
+// Reads so many steps from the start of a text into columns. After a refusal they may hold anything.
 fn read_steps(
     text: &[u8],
     steps: usize,
@@ -35,42 +26,39 @@ fn read_steps(
     y: &mut [u16],
     z: &mut [u16],
     cost: &mut [i64],
-) -> u8
+) -> Result<(), Refusal>
     requires { Room steps (columns v.old x.old y.old z.old cost.old) }
     ensures { StepsRead (steps_in steps text.now)
         (columns v.old x.old y.old z.old cost.old)
         (columns v.new x.new y.new z.new cost.new) result }
 {
     let mut at = 0;
-    let mut i = 0;
-    while i < steps {
-        let Line::Frame(f, next) = read_line(text, at, STEP) else {
-            return FORM;
+    for i in 0..steps {
+        let Ok((f, next)) = read_line(text, at, Kind::Step) else {
+            return Err(Refusal::Form);
         };
         let step = Step::of(f);
         v[i] = step.v as u16;
         x[i] = step.x as u16;
         y[i] = step.y as u16;
         z[i] = step.z as u16;
-        let c = step.cost;
-        cost[i] = c;
+        cost[i] = step.cost;
         at = next;
-        i += 1;
     }
-    0
+    Ok(())
 }
 
-// Reads an ending at a place of a text, with nothing behind it.
-fn read_ending(text: &[u8], at: usize) -> ReadEnding
-    ensures { ending_answer result ≡ ending_in (drop at text.now) }
+// Reads an ending at a place of a text, with nothing behind it: the edge that it drops.
+fn read_ending(text: &[u8], at: usize) -> Result<u16, Refusal>
+    ensures { told result ≡ ending_in (drop at text.now) }
 {
-    let Line::Frame(f, end) = read_line(text, at, DROPPED) else {
-        return ReadEnding::Refused;
+    let Ok((f, end)) = read_line(text, at, Kind::Dropped) else {
+        return Err(Refusal::Form);
     };
     if end < text.len() {
-        return ReadEnding::Refused;
+        return Err(Refusal::Form);
     }
-    ReadEnding::Drops(Dropped::of(f).edge as u16)
+    Ok(Dropped::of(f).edge as u16)
 }
 
 // Reads a chain text into columns that have room for every chain. After a refusal they may hold anything.
@@ -82,27 +70,23 @@ fn parse_chain(
     y: &mut [u16],
     z: &mut [u16],
     cost: &mut [i64],
-) -> ReadChain
+) -> Result<ReadChain, Refusal>
     requires { Room step_limit (columns v.old x.old y.old z.old cost.old) }
     ensures { ChainRead (read_chain vertices text.now)
         (columns v.old x.old y.old z.old cost.old)
         (columns v.new x.new y.new z.new cost.new) result }
 {
     if !vertices_ok(vertices) {
-        return ReadChain::Refused(VERTICES);
+        return Err(Refusal::Vertices);
     }
     let steps = vertices - FEWEST_VERTICES;
-    let refusal = read_steps(text, steps, v, x, y, z, cost);
-    if 0 < refusal {
-        return ReadChain::Refused(refusal);
-    }
-    let ReadEnding::Drops(dropped) = read_ending(text, steps * length_of(STEP)) else {
-        return ReadChain::Refused(FORM);
-    };
-    ReadChain::Read { steps, dropped }
+    read_steps(text, steps, v, x, y, z, cost)?;
+    let dropped = read_ending(text, steps * length_of(Kind::Step))?;
+    Ok(ReadChain { steps, dropped })
 }
 
-// Reads a chain text for so many vertices into columns: all of them are written, or none.
+// Reads a chain text for so many vertices into columns, which are apart as C lends them: all of them are written, or
+// none.
 pub fn read_chain(
     vertices: usize,
     text: &[u8],
@@ -111,7 +95,7 @@ pub fn read_chain(
     y: &mut [u16],
     z: &mut [u16],
     cost: &mut [i64],
-) -> ReadChain
+) -> Result<ReadChain, Refusal>
     ensures { ReadInto vertices text.now
         (columns v.old x.old y.old z.old cost.old) result
         (columns v.new x.new y.new z.new cost.new) }
@@ -121,7 +105,7 @@ pub fn read_chain(
     let mut y_read = [0u16; STEP_LIMIT];
     let mut z_read = [0u16; STEP_LIMIT];
     let mut cost_read = [0i64; STEP_LIMIT];
-    let reply = parse_chain(
+    let read = parse_chain(
         vertices,
         text,
         &mut v_read,
@@ -129,24 +113,22 @@ pub fn read_chain(
         &mut y_read,
         &mut z_read,
         &mut cost_read,
-    );
-    let ReadChain::Read { steps, dropped: _ } = reply else {
-        return reply;
-    };
+    )?;
+    let steps = read.steps;
     if v.len() < steps
         || x.len() < steps
         || y.len() < steps
         || z.len() < steps
         || cost.len() < steps
     {
-        return ReadChain::Refused(SHORT);
+        return Err(Refusal::Short);
     }
     copy(&v_read, steps, v);
     copy(&x_read, steps, x);
     copy(&y_read, steps, y);
     copy(&z_read, steps, z);
-    copy_costs(&cost_read, steps, cost);
-    reply
+    copy(&cost_read, steps, cost);
+    Ok(read)
 }
 
 // How many bytes a chain text with so many steps has.
@@ -154,7 +136,7 @@ pub fn chain_length(steps: usize) -> usize
     requires { steps ≤ step_limit }
     ensures { result ≡ chain_length steps }
 {
-    steps * length_of(STEP) + length_of(DROPPED)
+    steps * length_of(Kind::Step) + length_of(Kind::Dropped)
 }
 
 // The step at a place of columns.
@@ -163,13 +145,12 @@ fn step_at(v: &[u16], x: &[u16], y: &[u16], z: &[u16], cost: &[i64], place: usiz
     ensures { result ≡ step_at
         (columns v.now x.now y.now z.now cost.now) place }
 {
-    let c = cost[place];
     Step {
         v: v[place] as u64,
         x: x[place] as u64,
         y: y[place] as u64,
         z: z[place] as u64,
-        cost: c,
+        cost: cost[place],
     }
 }
 
@@ -194,16 +175,14 @@ pub fn put_chain(
         text.old) }
 {
     let mut at = 0;
-    let mut i = 0;
-    while i < v.len() {
+    for i in 0..v.len() {
         let step = step_at(v, x, y, z, cost, i);
-        at += put_line(&mut text[at..], STEP, step.fields());
-        i += 1;
+        at += put_line(&mut text[at..], Kind::Step, step.fields());
     }
     let ending = Dropped {
         edge: dropped as u64,
     };
-    at + put_line(&mut text[at..], DROPPED, ending.fields())
+    at + put_line(&mut text[at..], Kind::Dropped, ending.fields())
 }
 
 // Writes a chain text for so many vertices.
@@ -216,8 +195,8 @@ pub fn write_chain(
     cost: &[i64],
     dropped: u16,
     text: &mut [u8],
-) -> Reply
-    ensures { (result ≡ reply_of (write_chain vertices
+) -> Result<usize, Refusal>
+    ensures { (told result ≡ reply_of (write_chain vertices
         (columns v.now x.now y.now z.now cost.now) dropped)
         text.old) ×
         (text.new ≡ after (write_chain vertices
@@ -225,7 +204,7 @@ pub fn write_chain(
         text.old) }
 {
     if !vertices_ok(vertices) {
-        return Reply::Refused(VERTICES);
+        return Err(Refusal::Vertices);
     }
     let steps = vertices - FEWEST_VERTICES;
     if v.len() != steps
@@ -234,10 +213,10 @@ pub fn write_chain(
         || z.len() != steps
         || cost.len() != steps
     {
-        return Reply::Refused(FORM);
+        return Err(Refusal::Form);
     }
     if text.len() < chain_length(steps) {
-        return Reply::Refused(SHORT);
+        return Err(Refusal::Short);
     }
-    Reply::Done(put_chain(v, x, y, z, cost, dropped, text))
+    Ok(put_chain(v, x, y, z, cost, dropped, text))
 }

@@ -2,8 +2,9 @@
 // each refusal, and reads a chain text into columns.
 #![tactic(auto)]
 
-use base::{LONGEST_KEPT, Reply};
+use base::LONGEST_KEPT;
 use explained::reasons_of;
+use replies::{say, say_with_text};
 use std::io;
 use thinning::check_chain;
 
@@ -11,71 +12,50 @@ mod columns;
 mod explained;
 mod thirds;
 
-fn say(rt: &impl Print, words: &[u8]) -> io::Result<()> {
-    rt.write_all(words)
-}
-
-fn refused(rt: &impl Print, number: u8) -> io::Result<()> {
-    say(rt, b"refused ")?;
-    rt.print(number)?;
-    say(rt, b"\n")
-}
-
 // Says what a chain is, and writes its kept text or the refusal.
-fn chain(rt: &impl Print, what: &[u8], text: &[u8], proposed: &[u8]) -> io::Result<()> {
-    say(rt, what)?;
-    say(rt, b": ")?;
+fn chain(rt: &impl Print, what: &str, text: &[u8], proposed: &[u8]) -> io::Result<()> {
     let mut kept = [0u8; LONGEST_KEPT];
-    match check_chain(text, proposed, &mut kept) {
-        Reply::Done(length) => {
-            say(rt, b"passes\n")?;
-            rt.write_all(&kept[..length])
-        }
-        Reply::Refused(number) => refused(rt, number),
-    }
+    let reply = check_chain(text, proposed, &mut kept);
+    say_with_text(rt, what, "passes", reply, &kept)
 }
 
 // The same, and then its reasons text or the refusal.
-fn with_reasons(rt: &impl Print, what: &[u8], text: &[u8], proposed: &[u8]) -> io::Result<()> {
+fn with_reasons(rt: &impl Print, what: &str, text: &[u8], proposed: &[u8]) -> io::Result<()> {
     chain(rt, what, text, proposed)?;
-    reasons_of(rt, b"  its reasons", text, proposed, 104)
+    reasons_of(rt, "  its reasons", text, proposed, 104)
 }
 
 // Says what a chain is, and how the check answers in a byte less than the kept text of three cables takes.
-fn chain_short(rt: &impl Print, what: &[u8], text: &[u8], proposed: &[u8]) -> io::Result<()> {
-    say(rt, what)?;
-    say(rt, b": ")?;
+fn chain_short(rt: &impl Print, what: &str, text: &[u8], proposed: &[u8]) -> io::Result<()> {
     let mut kept = [0u8; 55];
-    match check_chain(text, proposed, &mut kept) {
-        Reply::Done(_) => say(rt, b"passes\n"),
-        Reply::Refused(number) => refused(rt, number),
-    }
+    let reply = check_chain(text, proposed, &mut kept);
+    say(rt, what, "passes", reply.and(Ok(())))
 }
 
 // Chains on T: the printed one, and their form.
 fn forms(rt: &impl Print, text: &[u8]) -> io::Result<()> {
     with_reasons(
         rt,
-        b"T as printed",
+        "T as printed",
         text,
         b"030001000400050001fffffffffffffffe\n040003\n",
     )?;
-    with_reasons(rt, b"no chain", text, b"")?;
+    with_reasons(rt, "no chain", text, b"")?;
     with_reasons(
         rt,
-        b"no ending",
+        "no ending",
         text,
         b"030001000400050001fffffffffffffffe\n",
     )?;
     with_reasons(
         rt,
-        b"a step of seven bytes",
+        "a step of seven bytes",
         text,
         b"03000100040005\n040003\n",
     )?;
     with_reasons(
         rt,
-        b"four bytes for z's cost",
+        "four bytes for z's cost",
         text,
         b"030001000400050001fffffffe\n040003\n",
     )
@@ -85,25 +65,25 @@ fn forms(rt: &impl Print, text: &[u8]) -> io::Result<()> {
 fn partners(rt: &impl Print, text: &[u8]) -> io::Result<()> {
     with_reasons(
         rt,
-        b"v 2",
+        "v 2",
         text,
         b"030002000400050001fffffffffffffffe\n040003\n",
     )?;
     with_reasons(
         rt,
-        b"y 0",
+        "y 0",
         text,
         b"030001000400000001fffffffffffffffe\n040003\n",
     )?;
     with_reasons(
         rt,
-        b"x 1, y 5",
+        "x 1, y 5",
         text,
         b"0300010001000500040000000000000002\n040003\n",
     )?;
     with_reasons(
         rt,
-        b"x 5, y 4",
+        "x 5, y 4",
         text,
         b"0300010005000400010000000000000001\n040003\n",
     )
@@ -113,25 +93,25 @@ fn partners(rt: &impl Print, text: &[u8]) -> io::Result<()> {
 fn endings(rt: &impl Print, text: &[u8]) -> io::Result<()> {
     with_reasons(
         rt,
-        b"drops 2",
+        "drops 2",
         text,
         b"030001000400050001fffffffffffffffe\n040002\n",
     )?;
     with_reasons(
         rt,
-        b"drops 2, and a broken ending",
+        "drops 2, and a broken ending",
         text,
         b"030001000400050001fffffffffffffffe\n040002",
     )?;
     with_reasons(
         rt,
-        b"a byte left over",
+        "a byte left over",
         text,
         b"030001000400050001fffffffffffffffe\n040003\n0",
     )?;
     chain_short(
         rt,
-        b"a buffer of 55 bytes",
+        "a buffer of 55 bytes",
         text,
         b"030001000400050001fffffffffffffffe\n040003\n",
     )
@@ -141,25 +121,25 @@ fn endings(rt: &impl Print, text: &[u8]) -> io::Result<()> {
 fn square(rt: &impl Print, text: &[u8]) -> io::Result<()> {
     with_reasons(
         rt,
-        b"four cabinets",
+        "four cabinets",
         text,
         b"030002000300020007fffffffffffffffe\n0300030005000700060000000000000003\n040001\n",
     )?;
     with_reasons(
         rt,
-        b"its second step first",
+        "its second step first",
         text,
         b"0300030005000700060000000000000003\n030002000300020007fffffffffffffffe\n040001\n",
     )?;
     with_reasons(
         rt,
-        b"its second step at v 1",
+        "its second step at v 1",
         text,
         b"030002000300020007fffffffffffffffe\n0300010005000700060000000000000003\n040001\n",
     )?;
     with_reasons(
         rt,
-        b"cable 3, which has retired, for the second step's z",
+        "cable 3, which has retired, for the second step's z",
         text,
         b"030002000300020007fffffffffffffffe\n0300030005000700030000000000000003\n040001\n",
     )

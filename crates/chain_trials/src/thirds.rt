@@ -6,31 +6,31 @@ use std::io;
 fn other_cables(rt: &impl Print, text: &[u8]) -> io::Result<()> {
     with_reasons(
         rt,
-        b"z 2",
+        "z 2",
         text,
         b"030001000400050002fffffffffffffffe\n040003\n",
     )?;
     chain(
         rt,
-        b"z 4",
+        "z 4",
         text,
         b"030001000400050004fffffffffffffffe\n040003\n",
     )?;
     chain(
         rt,
-        b"z 5",
+        "z 5",
         text,
         b"030001000400050005fffffffffffffffe\n040003\n",
     )?;
     chain(
         rt,
-        b"z 0",
+        "z 0",
         text,
         b"030001000400050000fffffffffffffffe\n040003\n",
     )?;
     chain(
         rt,
-        b"z 6",
+        "z 6",
         text,
         b"030001000400050006fffffffffffffffe\n040003\n",
     )
@@ -40,19 +40,19 @@ fn other_cables(rt: &impl Print, text: &[u8]) -> io::Result<()> {
 fn near_costs(rt: &impl Print, text: &[u8]) -> io::Result<()> {
     with_reasons(
         rt,
-        b"cost -1",
+        "cost -1",
         text,
         b"030001000400050001ffffffffffffffff\n040003\n",
     )?;
     chain(
         rt,
-        b"cost -3",
+        "cost -3",
         text,
         b"030001000400050001fffffffffffffffd\n040003\n",
     )?;
     chain(
         rt,
-        b"cost 2",
+        "cost 2",
         text,
         b"0300010004000500010000000000000002\n040003\n",
     )
@@ -62,25 +62,25 @@ fn near_costs(rt: &impl Print, text: &[u8]) -> io::Result<()> {
 fn far_costs(rt: &impl Print, text: &[u8]) -> io::Result<()> {
     chain(
         rt,
-        b"cost 4",
+        "cost 4",
         text,
         b"0300010004000500010000000000000004\n040003\n",
     )?;
     chain(
         rt,
-        b"cost 10",
+        "cost 10",
         text,
         b"030001000400050001000000000000000a\n040003\n",
     )?;
     chain(
         rt,
-        b"the highest cost",
+        "the highest cost",
         text,
         b"0300010004000500017fffffffffffffff\n040003\n",
     )?;
     chain(
         rt,
-        b"the lowest cost",
+        "the lowest cost",
         text,
         b"0300010004000500018000000000000000\n040003\n",
     )
@@ -90,25 +90,25 @@ fn far_costs(rt: &impl Print, text: &[u8]) -> io::Result<()> {
 fn in_order(rt: &impl Print, text: &[u8]) -> io::Result<()> {
     chain(
         rt,
-        b"x 5, y 4, and cost -2",
+        "x 5, y 4, and cost -2",
         text,
         b"030001000500040001fffffffffffffffe\n040003\n",
     )?;
     chain(
         rt,
-        b"x 1, y 5, and z 2",
+        "x 1, y 5, and z 2",
         text,
         b"0300010001000500020000000000000002\n040003\n",
     )?;
     chain(
         rt,
-        b"z 2, and a broken ending",
+        "z 2, and a broken ending",
         text,
         b"030001000400050002fffffffffffffffe\n04000",
     )?;
     chain(
         rt,
-        b"z 2, and drops 2",
+        "z 2, and drops 2",
         text,
         b"030001000400050002fffffffffffffffe\n040002\n",
     )

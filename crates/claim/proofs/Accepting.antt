@@ -1,11 +1,12 @@
 -- The network check by its steps, and what is known of an accepted network.
-use mathlib.Core.Path.{◌≡◌, refl, sym, ◌∙◌, ap}
+use mathlib.Core.Path.{◌≡◌, refl, ◌∙◌, ap}
 use mathlib.Core.Bool.{Bool, true, false}
 use mathlib.Core.List.{List}
-use Prim.Native.Nat.{ℕ, ◌+◌, ◌-◌, ◌≤◌}
+use Rattle.std.proofs.Common.{Result, Ok, Err}
+use Prim.Native.Nat.{ℕ, ◌-◌, ◌≤◌}
 use native.Mathlib.Omega.{arith}
 use lib.ListN.{length}
-use Rattle.base.proofs.Answers.{then-refused, then-answer, unless-answered}
+use Rattle.base.proofs.Answers.{then-refused, unless-answered}
 use Rattle.base.proofs.Bools.{no_answer, bit-low}
 use Rattle.base.proofs.Sums.{sum_bound}
 use Rattle.base.specs.Answer.{Answer, refused, answer, and_then, unless}
@@ -14,9 +15,10 @@ use Rattle.network_text.specs.Text.{Meaning, read_network}
 use Rattle.base.specs.Refusals.{DEGREE, CUT}
 use Rattle.base.proofs.Numbered.{Numbered, answered, unless-numbered, then-meeting, numbered-up}
 use Rattle.loading.specs.Known.{Known}
-use Rattle.loading.specs.Loading.{network_of, load_network, loaded_of, loaded_answer}
-use Rattle.loading.specs.declared.Loaded.{Loaded}
-use Rattle.loading.proofs.Reading.{known-light, loaded-read, load-numbered, loaded-known, answer-numbered, loaded-again}
+use Rattle.loading.specs.Loading.{network_of, load_network, loaded_answer}
+use Rattle.base.specs.declared.refusals.Refusal.{Refusal}
+use Rattle.loading.specs.declared.loaded.Loaded.{Loaded}
+use Rattle.loading.proofs.Reading.{known-light, loaded-read, load-numbered, loaded-known}
 use Rattle.graph.specs.Cut.{every_cut, four_each, network_refusal}
 use Rattle.graph.specs.Network.{here}
 use Rattle.base.specs.Limits.{vertex_limit}
@@ -24,7 +26,6 @@ use Rattle.graph.specs.declared.Network.{Network}
 use Rattle.graph.proofs.Backs.{passes-good}
 use Rattle.graph.proofs.Condition.{accepted-sound, fresh-remaining}
 use Rattle.graph.proofs.Numbers.{network-number}
-use Rattle.claim.specs.declared.Acceptance.TheVariants.{Accepted, Refused}
 use Rattle.rules.specs.Running.{Running, Keeping}
 use Rattle.claim.specs.Verdicts.{check_chain}
 use Rattle.claim.specs.Services.{accepting, accept_network, acceptance_of, kept_in, check_chain_text}
@@ -48,9 +49,6 @@ module _ (g : Network) where
 module _ (a : Answer Network) where
   pub accepting-refused : (k : ℕ) → a ≡ refused k → accepting a ≡ refused k
   accepting-refused k e = then-refused a _ k e
-
-  pub accepting-judged : (g : Network) (k : ℕ) → a ≡ answer g → k ≡ network_refusal g → accepting a ≡ unless k (answer g)
-  accepting-judged g k e q = then-answer a _ g e ∙ ap (λ j. unless j (answer g)) (sym q)
 
   -- its refusals are those met before, and 6 and 7
   pub accepting-numbered : {top : ℕ} → CUT ≤ top → Numbered top a → Numbered top (accepting a)
@@ -86,6 +84,14 @@ pub accepting-running : (a : Answer Network) → ((g : Network) → a ≡ answer
     → (g : Network) → accepting a ≡ answer g → Running g
 accepting-running a known g e = let w = accepting-answered a g e in known-running (known g w.0) w.1
 
+-- and so one that was loaded does
+pub loaded-running : (l : Result Loaded Refusal) (g : Network) → accepting (loaded_answer l) ≡ answer g → Running g
+loaded-running l g e = accepting-running (loaded_answer l) (known l) g e
+  where
+    known : (l : Result Loaded Refusal) (g : Network) → loaded_answer l ≡ answer g → Known g
+    known (Ok l) g e = let w : l.network ≡ g = cc in rw w at l.known
+    known (Err r) g e = no_answer (cc)
+
 -- the vertices of a running network are no more than there is room for
 pub running-few : {g : Network} → Running g → g.remaining ≤ vertex_limit
 running-few {g} run =
@@ -93,27 +99,21 @@ running-few {g} run =
     let few = sum_bound g.vertices 1 (λ v. bit (here g v)) (λ v l. bit-low (here g v)) in
     omega (arith, run.vertex_room)
 
-pub answered-refused : (a : Answer Network) (k : ℕ) → a ≡ refused k → Refused k ≡ acceptance_of a
+pub answered-refused : (a : Answer Network) (k : ℕ) → a ≡ refused k → refused k ≡ acceptance_of a
 unfolding acceptance_of
 answered-refused a k e = rw e
 
-pub answered-accepted : (a : Answer Network) (g : Network) → a ≡ answer g → Accepted ≡ acceptance_of a
+pub answered-accepted : (a : Answer Network) (g : Network) → a ≡ answer g → answer tt ≡ acceptance_of a
 unfolding acceptance_of
 answered-accepted a g e = rw e
-
--- ── what was loaded, by its refusal ──
-
--- every refusal of its check has a number
-pub loaded-numbered : (l : Loaded) → Numbered (CUT + l.refusal) (accepting (loaded_answer l))
-loaded-numbered l = accepting-numbered (loaded_answer l) (omega arith) (answer-numbered l (omega arith))
 
 -- ── the check of a text ──
 
 -- what a text loads is accepted as the text is
-pub accept-loaded : (t : List ℕ) {l : Loaded} → l ≡ loaded_of (load_network t)
+pub accept-loaded : (t : List ℕ) (l : Result Loaded Refusal) → loaded_answer l ≡ load_network t
     → accepting (loaded_answer l) ≡ accept_network t
 unfolding accept_network
-accept-loaded t e = ap accepting (loaded-again (load_network t) (load-numbered t) e)
+accept-loaded t l e = ap accepting e
 
 -- its refusals are 1 to 7
 pub accept-numbered : (t : List ℕ) → Numbered CUT (accept_network t)

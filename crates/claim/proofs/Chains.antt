@@ -2,13 +2,16 @@
 use mathlib.Core.Path.{◌≡◌, refl, sym, ◌∙◌, ap}
 use mathlib.Core.Bool.{Bool, true, false}
 use mathlib.Core.List.{List, ◌∷◌}
-use Prim.Native.Nat.{ℕ, zero, suc, ◌+◌, ◌-◌, ◌≤◌, ◌<◌}
+use Prim.Native.Nat.{ℕ, suc, ◌+◌, ◌-◌, ◌≤◌, ◌<◌}
 use native.Mathlib.Omega.{arith}
 use lib.ListN.{length, drop}
 use lib.Seq.{drop-drop}
 use borrow.Author.Tests.{le-leb, lt-leb}
-use Rattle.base.specs.Answer.{Answer, answer, refused, unless, refusal_of, number_given}
+use Rattle.std.proofs.Common.{Err}
+use Rattle.base.specs.Answer.{Answer, answer, refused, told, number_of, unless, refusal_of, number_given}
 use Rattle.base.specs.Refusals.{FORM}
+use Rattle.base.specs.declared.refusals.Refusal.{Refusal}
+use Rattle.base.proofs.Answers.{number-above, unless-met}
 use Rattle.frame.specs.Table.{STEP, DROPPED, line_length}
 use Rattle.frame.specs.Line.{is_line}
 use Rattle.base.specs.Limits.{edge_limit}
@@ -23,11 +26,13 @@ use Rattle.claim.specs.Verdicts.{rules_in, numbers_in, column_after}
 
 -- ── what a verdict leaves ──
 module _ {w : Answer (List Bool)} where
-  pub refused-leaves : {k : ℕ} → w ≡ refused k → (k ≡ refusal_of w) × ((due old : List ℕ) → old ≡ column_after w due old)
+  pub refused-leaves : {k : ℕ} → w ≡ refused k
+      → (refusal_of {M = Unit} (refused k) ≡ refusal_of w) × ((due old : List ℕ) → old ≡ column_after w due old)
   unfolding refusal_of number_given
   refused-leaves e = (rw e, λ due old. rw e)
 
-  pub kept_leaves : {K : List Bool} → w ≡ answer K → (0 ≡ refusal_of w) × ((due old : List ℕ) → due ≡ column_after w due old)
+  pub kept_leaves : {K : List Bool} → w ≡ answer K
+      → (refusal_of {M = Unit} (answer tt) ≡ refusal_of w) × ((due old : List ℕ) → due ≡ column_after w due old)
   unfolding refusal_of number_given
   kept_leaves e = (rw e, λ due old. rw e)
 
@@ -38,16 +43,17 @@ same-column (refused k) column = refl
 same-column (answer K) column = refl
 
 -- and the other way round
-pub was-refused : (w : Answer (List Bool)) {k : ℕ} → k ≡ refusal_of w → 0 < k → w ≡ refused k
+pub was-refused : (w : Answer (List Bool)) (r : Refusal) → refusal_of {M = Unit} (told (Err r)) ≡ refusal_of w
+    → w ≡ refused (number_of r)
 unfolding refusal_of
-was-refused (refused j) e l = ap refused (sym e)
-was-refused (answer K) e l = absurd (omega arith)
+was-refused (refused j) r e = ap refused (sym e)
+was-refused (answer K) r e = absurd (omega (arith, number-above r))
 
-pub was-kept : (w : Answer (List Bool)) → ((j : ℕ) → w ≡ refused j → 0 < j) → {k : ℕ} → k ≡ refusal_of w → k ≤ 0
-    → (K : List Bool) × (w ≡ answer K)
+pub was-kept : (w : Answer (List Bool)) → ((j : ℕ) → w ≡ refused j → 0 < j)
+    → refusal_of {M = Unit} (answer tt) ≡ refusal_of w → (K : List Bool) × (w ≡ answer K)
 unfolding refusal_of
-was-kept (refused j) numbered e l = absurd (omega (arith, numbered j refl))
-was-kept (answer K) numbered e l = (K, refl)
+was-kept (refused j) numbered e = absurd (omega (arith, numbered j refl))
+was-kept (answer K) numbered e = (K, refl)
 
 -- going back through a step
 module _ (t : Step) {w : Answer (List Bool)} where
@@ -67,10 +73,10 @@ module _ (g : Network) (t : List ℕ) where
   ending-broken h = rw h
 
   module _ (is : is_line DROPPED t ≡ true) where
-    pub ending-refused : (k : ℕ) → 0 < k → end_refusal g (dropped_in t) ≡ k → check_ending g t ≡ refused k
-    unfolding check_ending unless
-    ending-refused zero l h = absurd (omega arith)
-    ending-refused (suc k) l h = rw (is, h)
+    pub ending-refused : (r : Refusal) → refusal_of {M = Unit} (told (Err r)) ≡ end_refusal g (dropped_in t)
+        → check_ending g t ≡ refused (number_of r)
+    unfolding check_ending
+    ending-refused r e = rw is (unless-met _ {t = Err r} refl e)
 
     pub ending-longer : end_refusal g (dropped_in t) ≡ 0 → line_length DROPPED < length t
         → check_ending g t ≡ refused left_over
@@ -89,10 +95,10 @@ module _ (n : ℕ) (g : Network) (t : List ℕ) where
   chain-broken h = rw h
 
   module _ (is : is_line STEP t ≡ true) where
-    pub chain-refused : (k : ℕ) → 0 < k → step_refusal g (step_in t) ≡ k → check_chain (suc n) g t ≡ refused k
-    unfolding check_chain unless
-    chain-refused zero l h = absurd (omega arith)
-    chain-refused (suc k) l h = rw (is, h)
+    pub chain-refused : (r : Refusal) → refusal_of {M = Unit} (told (Err r)) ≡ step_refusal g (step_in t)
+        → check_chain (suc n) g t ≡ refused (number_of r)
+    unfolding check_chain
+    chain-refused r e = rw is (unless-met _ {t = Err r} refl e)
 
     pub chain_more : step_refusal g (step_in t) ≡ 0
         → check_chain (suc n) g t
@@ -117,11 +123,11 @@ module _ (g : Network) (text : List ℕ) (at : ℕ) where
 
     -- t is the step that the frame names
     module _ (is : is_line STEP (drop at text) ≡ true) (t : Step) (named : t ≡ step_in (drop at text)) where
-      pub chain-at-refused : (k : ℕ) → 0 < k → step_refusal g t ≡ k
-          → check_chain (g.remaining - 2) g (drop at text) ≡ refused k
-      chain-at-refused k l h =
+      pub chain-at-refused : (r : Refusal) → refusal_of {M = Unit} (told (Err r)) ≡ step_refusal g t
+          → check_chain (g.remaining - 2) g (drop at text) ≡ refused (number_of r)
+      chain-at-refused r e =
           rw (← one_more)
-          (chain-refused (g.remaining - 1 - 2) g (drop at text) is k l (ap (step_refusal g) (sym named) ∙ h))
+          (chain-refused (g.remaining - 1 - 2) g (drop at text) is r (e ∙ ap (step_refusal g) named))
 
       -- h is the network after the step, and next the place behind its line
       pub chain-at-more : (next : ℕ) (h : Network) → step_refusal g t ≡ 0 → h ≡ after g t → next ≡ at + line_length STEP

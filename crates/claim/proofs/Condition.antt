@@ -12,9 +12,8 @@ use lib.ListN.{length}
 use borrow.Author.Tests.{eq-eqb}
 use Rattle.base.proofs.Bools.{no_answer, same_test}
 use Rattle.base.proofs.LimitLaws.{sums_far}
-use Rattle.base.specs.Answer.{Answer, refused as refused_by, answer, and_then, refused}
+use Rattle.base.specs.Answer.{Answer, refused, answer, and_then}
 use Rattle.base.specs.Refusals.{SHORT}
-use Rattle.base.specs.declared.reply.Reply.TheVariants.{Refused}
 use Rattle.base.proofs.Answers.{then-answer, refuses, fits, short}
 use Rattle.network_text.specs.Text.{Meaning, reserving_text}
 use Rattle.network_text.proofs.OneToOne.{read_written, written_read}
@@ -232,7 +231,7 @@ module _ {t : List ℕ} {g : Network} (a : Accepted t g) where
   ruled-answers {chain} {K} r = chain-kept t chain g (accepts a) K (ruled-keeps running r)
 
   -- 13 is the buffer's
-  never-short : (chain : List ℕ) → check_chain_text t chain ≡ refused_by SHORT → ⊥
+  never-short : (chain : List ℕ) → check_chain_text t chain ≡ refused SHORT → ⊥
   never-short chain h =
       ⊎_elim (λ e. omega arith) (λ w. ⊎_elim (λ w. omega (arith, w.1)) (λ e. omega arith) w)
       (chain-meets t chain g SHORT (accepts a) h)
@@ -242,10 +241,10 @@ module _ {t : List ℕ} {g : Network} (a : Accepted t g) where
     where
       go : (w : Answer (List ℕ)) → check_chain_text t chain ≡ w → (K : List Bool) × Ruled g chain K
       go (answer text) q = let r = answers-ruled chain text q in (r.0, r.1)
-      go (refused_by k) q =
+      go (refused k) q =
           let e = (refuses (check_chain_text t chain) lent k q).0 in
           ⊎_elim (λ d. let x = d.1 in no_answer (cc))
-          (λ s. let z : k ≡ SHORT = cc in absurd (never-short chain (q ∙ ap refused_by z))) p
+          (λ s. let z : k ≡ SHORT = cc in absurd (never-short chain (q ∙ ap refused z))) p
 
   ruled-text-passes : (chain lent : List ℕ) → (K : List Bool) × Ruled g chain K → Passes (chain_reply t chain lent)
   ruled-text-passes chain lent r =
@@ -256,7 +255,7 @@ module _ {t : List ℕ} {g : Network} (a : Accepted t g) where
         | no l ↦ inl (length text, sym (fits (check_chain_text t chain) lent text q (omega arith)).0)
       ]
 
-  short-ruled : (chain lent : List ℕ) → chain_reply t chain lent ≡ Refused SHORT
+  short-ruled : (chain lent : List ℕ) → chain_reply t chain lent ≡ refused SHORT
       → (K : List Bool) × Ruled g chain K × (length lent < length (kept_text_of g K))
   short-ruled chain lent h =
       let r = passes-ruled-text chain lent (inr h) in
@@ -299,11 +298,11 @@ module _ {t : List ℕ} {g : Network} (a : Accepted t g) where
       }
 
 -- ── the claim ──
-untouched : (t chain lent : List ℕ) (k : ℕ) → chain_reply t chain lent ≡ Refused k → kept_after t chain lent ≡ lent
+untouched : (t chain lent : List ℕ) (k : ℕ) → chain_reply t chain lent ≡ refused k → kept_after t chain lent ≡ lent
 untouched t chain lent k h = go (check_chain_text t chain) refl
   where
     go : (w : Answer (List ℕ)) → check_chain_text t chain ≡ w → kept_after t chain lent ≡ lent
-    go (refused_by j) q = sym (refuses (check_chain_text t chain) lent j q).1
+    go (refused j) q = sym (refuses (check_chain_text t chain) lent j q).1
     go (answer text) q = elim (dec_lt (length lent) (length text)) [
       | yes l ↦ sym (short (check_chain_text t chain) lent text q l).1
       | no l ↦ let e = (fits (check_chain_text t chain) lent text q (omega arith)).0 in no_answer (cc)

@@ -19,7 +19,7 @@ use Rattle.list_text.specs.Text.{list_text}
 use Rattle.base.specs.Fold.{fold, pick, only, among, tabulate}
 use Rattle.kept_text.specs.Text.{kept_edges, costs_text, kept_text}
 use Rattle.loading.specs.Loading.{state_of, network_of, load_network}
-use Rattle.graph.specs.Network.{same_cost, ends_at, degree, touches, far, cost_over, kept}
+use Rattle.graph.specs.Network.{same_cost, ends_at, degree, touches, far, cost_over}
 use Rattle.graph.specs.Cut.{differ, crosses, crossings_of, every_side, somewhere, crossed_by, every_cut_of, four_each}
 use Rattle.graph.specs.Cut.{network_refusal}
 use Rattle.graph.specs.Split.{is_partner, partners, split, split_with, admissible, third, after}

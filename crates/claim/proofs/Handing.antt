@@ -3,6 +3,7 @@ use mathlib.Core.Path.{◌≡◌, refl, sym, ◌∙◌, ap}
 use mathlib.Core.Bool.{Bool, and-false}
 use mathlib.Core.Logic.{◌⊎◌, inl, inr, ⊎_elim}
 use mathlib.Core.List.{List, [], ◌∷◌, map}
+use Rattle.std.proofs.Common.{Result}
 use Prim.Native.Nat.{ℕ, zero, suc, ◌-◌, ◌≤◌, ◌<◌}
 use native.Mathlib.Omega.{arith}
 use native.Mathlib.Decide.{dec_lt}
@@ -14,7 +15,6 @@ use Rattle.base.specs.Answer.{Answer, refused, answer, and_then, given, over, fi
 use Rattle.base.specs.Refusals.{SHORT}
 use Rattle.base.proofs.Bools.{no_answer}
 use Rattle.base.proofs.Answers.{then-refused, given-refused, given-short, given-fits, filled-refused, filled-answer}
-use Rattle.base.proofs.Parts.{length_over}
 use Rattle.chain_text.specs.Text.{chain_text, steps_of, chain_length}
 use Rattle.chain_text.proofs.Lengths.{length-chain}
 use Rattle.graph.specs.Split.{after}
@@ -23,12 +23,12 @@ use Rattle.graph.specs.declared.Network.{Network}
 use Rattle.graph.specs.declared.Step.{Step}
 use Rattle.graph.proofs.Backs.{passes-good}
 use Rattle.graph.proofs.Condition.{plan-checked}
-use Rattle.loading.specs.Loading.{load_network, loaded_of, loaded_answer}
-use Rattle.loading.specs.declared.Loaded.{Loaded}
+use Rattle.loading.specs.Loading.{load_network, loaded_answer}
+use Rattle.base.specs.declared.refusals.Refusal.{Refusal}
+use Rattle.loading.specs.declared.loaded.Loaded.{Loaded}
 use Rattle.rules.specs.Plans.{planned as columnPlanned, StepRoom}
 use Rattle.rules.proofs.Planning.{over-start}
 use Rattle.rules.specs.Running.{Running}
-use Rattle.claim.specs.declared.Planned.TheVariants as planned
 use Rattle.claim.specs.Plans.{in_frame, plan_chain}
 use Rattle.claim.specs.Services.{Texts, accepting, kept_text_of, texts_of, plan_of, plan_room, texts_given, plan_in}
 use Rattle.claim.specs.Services.{plan_given, planned_of, Planning}
@@ -80,14 +80,14 @@ module _ (g : Network) (K : List Bool) (chain kept : List ℕ) where
 -- a reply and two buffers after a refusal, and after an answer
 module _ (a : Answer Texts) (chain kept : List ℕ) where
   pub handed-refused : (k : ℕ) → a ≡ refused k
-      → (planned.Refused k ≡ planned_of a) ×
+      → (refused k ≡ planned_of a) ×
       ((chain ≡ filled (λ t. t.chain) a chain) × (kept ≡ filled (λ t. t.kept) a kept))
   unfolding planned_of
   handed-refused k e =
       (rw e, (sym (filled-refused (λ t. t.chain) a chain k e), sym (filled-refused (λ t. t.kept) a kept k e)))
 
   pub handed-over : (t : Texts) → a ≡ answer t
-      → (planned.Written (length t.chain) (length t.kept) ≡ planned_of a)
+      → (answer (record { chain = length t.chain; kept = length t.kept }) ≡ planned_of a)
       × ((over t.chain chain ≡ filled (λ t. t.chain) a chain) ×
       (over t.kept kept ≡ filled (λ t. t.kept) a kept))
   unfolding planned_of
@@ -98,7 +98,7 @@ module _ (a : Answer Texts) (chain kept : List ℕ) where
 
 -- 13 is given for a buffer that is short, and for nothing else
 pub which-short : {w : Answer Texts} {due : Texts} → w ≡ answer due → (chain kept : List ℕ)
-    → planned_of (given (plan_room chain kept) w) ≡ planned.Refused SHORT
+    → planned_of (given (plan_room chain kept) w) ≡ refused SHORT
     → (length chain < length due.chain) ⊎ (length kept < length due.kept)
 which-short {w} {due} e chain kept h = elim (dec_lt (length chain) (length due.chain)) [
   | yes l ↦ inl l
@@ -111,15 +111,7 @@ which-short {w} {due} e chain kept h = elim (dec_lt (length chain) (length due.c
 
 -- ── columns of steps ──
 
--- a column stays as long as it was when the plan's steps are written over its start
-pub column-length : {A : Type 0} (n : ℕ) (g : Network) (part : Step → A) (old out : List A) → n ≤ length old
-    → out ≡ columnPlanned part n g 0 old → length out ≡ length old
-column-length n g part old out room e =
-    let xs = map part (plan_steps n g) in
-    ap length (e ∙ over-start xs old)
-    ∙ length_over xs old (omega (arith, length-map (plan_steps n g) part, steps-count n g))
-
--- and its part is there
+-- a column over whose start the plan's steps are written has them there
 column-written : {A : Type 0} (n : ℕ) (g : Network) (part : Step → A) (old out : List A) → n ≤ length old
     → out ≡ columnPlanned part n g 0 old → (n ≤ length out) × (take n out ≡ map part (plan_steps n g))
 unfolding over
@@ -150,10 +142,10 @@ module _ (a : Answer Network) (chain kept : List ℕ) where
   plan-given g e K q = rw (e, q)
 
 -- what a text loads is planned as the text is
-pub plan-loaded : (t chain kept : List ℕ) {l : Loaded} → l ≡ loaded_of (load_network t)
+pub plan-loaded : (t chain kept : List ℕ) (l : Result Loaded Refusal) → loaded_answer l ≡ load_network t
     → plan_in (accepting (loaded_answer l)) chain kept ≡ plan_given t chain kept
 unfolding plan_given
-plan-loaded t chain kept e = ap (λ a. plan_in a chain kept) (accept-loaded t e)
+plan-loaded t chain kept l e = ap (λ a. plan_in a chain kept) (accept-loaded t l e)
 
 -- the plan's steps stand at the start of the columns that they were written into
 module _ {g : Network} (run : Running g) (v₀ x₀ y₀ z₀ v x y z : List ℕ) (cost₀ cost : List ℤ) where

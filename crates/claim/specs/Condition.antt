@@ -1,11 +1,9 @@
 -- Condition 3, entire, as one claim over texts, replies and buffers; and with it when a network is accepted. It holds
 -- for every text, whichever edge is reserved, whatever bytes are proposed as a chain and whatever buffers are lent.
 use Rattle.std.specs.Prelude.{Bool, true, false, List, [], ◌∷◌, map, ◌↔◌, ◌⊎◌, ◌≡◌, ℕ, ◌*◌, ◌^◌, ◌≤◌, ◌<◌, length, pos, nat_abs, ◌*ℤ◌, ◌≤ℤ◌}
-use Rattle.base.specs.Answer.{refused, answer, over}
+use Rattle.base.specs.Answer.{Answer, refused, answer, over}
 use Rattle.base.specs.Limits.{edge_limit, cost_limit}
 use Rattle.base.specs.Refusals.{SHORT}
-use Rattle.base.specs.declared.reply.Reply.{Reply}
-use Rattle.base.specs.declared.reply.Reply.TheVariants.{Refused, Done}
 use Rattle.network_text.specs.Text.{Meaning, write_network, reserving_text}
 use Rattle.chain_text.specs.Text.{chain_text}
 use Rattle.kept_text.specs.Text.{kept_edges, kept_text}
@@ -17,7 +15,6 @@ use Rattle.graph.specs.Chain.{ByRules, Leads}
 use Rattle.graph.specs.Back.{Back}
 use Rattle.graph.specs.declared.Network.{Network}
 use Rattle.graph.specs.declared.Step.{Step}
-use Rattle.claim.specs.declared.Planned.TheVariants as plan
 use Rattle.claim.specs.Plans.{in_frame}
 use Rattle.claim.specs.Services.{accept_network, kept_text_of, check_chain_text, chain_reply, kept_after, Texts}
 use Rattle.claim.specs.Services.{plan_reply, planned_chain, planned_kept}
@@ -77,17 +74,17 @@ pub record Owed (g : Network) (K : List Bool) : Type 0 where
   pub ratio : (pos 3 *ℤ kept_cost g K) ≤ℤ (pos 2 *ℤ all_but_reserved g)
 
 -- a chain passes: its check succeeds, or gives 13
-abbrev pub Passes : Reply → Type 0
-Passes r = ((n : ℕ) × (r ≡ Done n)) ⊎ (r ≡ Refused SHORT)
+abbrev pub Passes : Answer ℕ → Type 0
+Passes r = ((n : ℕ) × (r ≡ answer n)) ⊎ (r ≡ refused SHORT)
 
 -- what planning t replies and leaves in two lent buffers, where p are the texts due: both, or 13 and neither
 pub record PlanWrites (t : List ℕ) (p : Texts) (chain lent : List ℕ) : Type 0 where
-  pub short : (plan_reply t chain lent ≡ plan.Refused SHORT) ↔
+  pub short : (plan_reply t chain lent ≡ refused SHORT) ↔
       ((length chain < length p.chain) ⊎ (length lent < length p.kept))
-  pub untouched : plan_reply t chain lent ≡ plan.Refused SHORT
+  pub untouched : plan_reply t chain lent ≡ refused SHORT
       → (planned_chain t chain lent ≡ chain) × (planned_kept t chain lent ≡ lent)
   pub written : length p.chain ≤ length chain → length p.kept ≤ length lent
-      → (plan_reply t chain lent ≡ plan.Written (length p.chain) (length p.kept))
+      → (plan_reply t chain lent ≡ answer (record { chain = length p.chain; kept = length p.kept }))
       × (planned_chain t chain lent ≡ over p.chain chain)
       × (planned_kept t chain lent ≡ over p.kept lent)
 
@@ -121,15 +118,15 @@ pub record Claim : Type 0 where
   pub owed : {t : List ℕ} {g : Network} → Accepted t g → {chain : List ℕ} {K : List Bool} → Ruled g chain K → Owed g K
   -- '13 an output buffer is shorter than the text that is due to it', for every buffer that is lent
   pub short : {t : List ℕ} {g : Network} → Accepted t g → (chain lent : List ℕ)
-      → (chain_reply t chain lent ≡ Refused SHORT) ↔
+      → (chain_reply t chain lent ≡ refused SHORT) ↔
       ((K : List Bool) × Ruled g chain K × (length lent < length (kept_text_of g K)))
   -- 'Success returns the lengths written': the whole text, and behind it the old bytes
   pub written : {t : List ℕ} {g : Network} → Accepted t g → {chain : List ℕ} {K : List Bool} → Ruled g chain K
       → (lent : List ℕ) → length (kept_text_of g K) ≤ length lent
-      → (chain_reply t chain lent ≡ Done (length (kept_text_of g K))) ×
+      → (chain_reply t chain lent ≡ answer (length (kept_text_of g K))) ×
       (kept_after t chain lent ≡ over (kept_text_of g K) lent)
   -- 'Every refusal returns its number alone; output buffers keep all their bytes'
-  pub untouched : (t chain lent : List ℕ) (k : ℕ) → chain_reply t chain lent ≡ Refused k → kept_after t chain lent ≡ lent
+  pub untouched : (t chain lent : List ℕ) (k : ℕ) → chain_reply t chain lent ≡ refused k → kept_after t chain lent ≡ lent
   -- 'For an accepted network the planner gives 13 under its condition, and otherwise writes a chain that passes over it
   -- and the kept text due from that chain's check'
   pub planned : {t : List ℕ} {g : Network} → Accepted t g
@@ -137,7 +134,7 @@ pub record Claim : Type 0 where
       × ((chain lent : List ℕ) → PlanWrites t p chain lent)
   -- 'The first met counts': what the network meets, chain check and planner give
   pub network_first : (t : List ℕ) (k : ℕ) → accept_network t ≡ refused k
-      → (chain lent : List ℕ) → (chain_reply t chain lent ≡ Refused k) × (plan_reply t chain lent ≡ plan.Refused k)
+      → (chain lent : List ℕ) → (chain_reply t chain lent ≡ refused k) × (plan_reply t chain lent ≡ refused k)
   -- 'No refusal is given but under its condition': a network text meets 1 to 7 alone
   pub network_refusals : (t : List ℕ) (k : ℕ) → accept_network t ≡ refused k → (1 ≤ k) × (k ≤ 7)
   -- and a chain over an accepted network 1, 8 to 12 and 17 alone, so that 13 comes from a lent buffer and nothing else

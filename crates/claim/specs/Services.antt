@@ -1,7 +1,6 @@
 -- What the services answer.
 use Rattle.std.specs.Prelude.{Bool, ◌&&◌, List, ◌≡◌, ℕ, ◌-◌, ◌≤◌, ℤ, length, take}
 use Rattle.base.specs.Answer.{Answer, refused, answer, and_then, given, filled, room_in, reply_of, after, unless}
-use Rattle.base.specs.declared.reply.Reply.{Reply}
 use Rattle.chain_text.specs.Text.{chain_text, steps_of}
 use Rattle.kept_text.specs.Text.{kept_edges, kept_text}
 use Rattle.loading.specs.Loading.{load_network}
@@ -10,10 +9,7 @@ use Rattle.graph.specs.Cut.{network_refusal}
 use Rattle.graph.specs.Plan.{plan_kept}
 use Rattle.base.specs.Limits.{vertex_limit}
 use Rattle.graph.specs.declared.Network.{Network}
-use Rattle.claim.specs.declared.Acceptance.{Acceptance}
-use Rattle.claim.specs.declared.Acceptance.TheVariants.{Accepted, Refused}
 use Rattle.claim.specs.declared.Planned.{Planned}
-use Rattle.claim.specs.declared.Planned.TheVariants as planned
 use Rattle.claim.specs.Verdicts.{check_chain}
 use Rattle.claim.specs.Plans.{plan_chain}
 use Rattle.rules.specs.Running.{Keeping}
@@ -29,9 +25,10 @@ accepting a = and_then a (λ g. unless (network_refusal g) (answer g))
 unfoldable pub accept_network : List ℕ → Answer Network
 accept_network t = accepting (load_network t)
 
-unfoldable pub acceptance_of : Answer Network → Acceptance
-acceptance_of (refused k) = Refused k
-acceptance_of (answer g) = Accepted
+-- the check's reply: accepted, or the refusal
+unfoldable pub acceptance_of : Answer Network → Answer Unit
+acceptance_of (refused k) = refused k
+acceptance_of (answer g) = answer tt
 
 -- ── check a chain ──
 
@@ -49,7 +46,7 @@ unfoldable pub check_chain_text : List ℕ → List ℕ → Answer (List ℕ)
 check_chain_text network chain = and_then (accept_network network) (λ g. kept_in g (check_chain (g.remaining - 2) g chain))
 
 -- the reply, and the kept buffer afterwards: 13 where the buffer is shorter than the kept text
-abbrev pub chain_reply : List ℕ → List ℕ → List ℕ → Reply
+abbrev pub chain_reply : List ℕ → List ℕ → List ℕ → Answer ℕ
 chain_reply network chain kept = reply_of (check_chain_text network chain) kept
 
 abbrev pub kept_after : List ℕ → List ℕ → List ℕ → List ℕ
@@ -89,12 +86,13 @@ plan_in a chain kept = given (plan_room chain kept) (plan_of a)
 unfoldable pub plan_given : List ℕ → List ℕ → List ℕ → Answer Texts
 plan_given network chain kept = plan_in (accept_network network) chain kept
 
-unfoldable pub planned_of : Answer Texts → Planned
-planned_of (refused k) = planned.Refused k
-planned_of (answer t) = planned.Written (length t.chain) (length t.kept)
+-- the lengths of both texts, or the refusal
+unfoldable pub planned_of : Answer Texts → Answer Planned
+planned_of (refused k) = refused k
+planned_of (answer t) = answer (record { chain = length t.chain; kept = length t.kept })
 
 -- the reply, and the two buffers afterwards
-abbrev pub plan_reply : List ℕ → List ℕ → List ℕ → Planned
+abbrev pub plan_reply : List ℕ → List ℕ → List ℕ → Answer Planned
 plan_reply network chain kept = planned_of (plan_given network chain kept)
 
 abbrev pub planned_chain : List ℕ → List ℕ → List ℕ → List ℕ

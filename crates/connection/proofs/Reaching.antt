@@ -24,6 +24,7 @@ use Rattle.connection.specs.Walk.{Joins, Link, Walk, stays, goes, JoinedByWalks}
 use Rattle.connection.specs.Searchable.{Searchable}
 use Rattle.connection.specs.Search.{Closed, Least}
 use Rattle.connection.specs.Words.{has, size}
+use Rattle.connection.specs.declared.words.VertexSet.{VertexSet}
 use Rattle.connection.proofs.Tallies.{bit_le, bit-same, sum_same, each-count}
 
 -- the ends of an edge are on one side exactly if the two vertices that it joins are
@@ -223,18 +224,18 @@ module _ (g : Network) (K : List Bool) (start : ℕ) (w : Searchable g) (some : 
 
   -- ── what the search's words say ──
 
-  module _ (W : List ℕ) (least : Least g.low g.high K g.edges start (has W)) where
+  module _ (S : VertexSet) (least : Least g.low g.high K g.edges start (has S)) where
     -- bit v is set exactly if the listed edges join v to the start vertex
-    least-joined : (v : ℕ) → has W v ≡ joined g K start v
+    least-joined : (v : ℕ) → has S v ≡ joined g K start v
     least-joined = least-one least joined-least
 
     -- and so many bits are set
-    pub least_size : g.vertices ≤ vertex_limit → size W ≡ reached_count g K start
+    pub least_size : g.vertices ≤ vertex_limit → size S ≡ reached_count g K start
     unfolding size reached_count joined
     least_size room =
         let n = g.vertices in
         let f : ℕ → ℕ = λ v. bit (joined g K start v) in
-        let same = sum-ext vertex_limit (λ v. bit (has W v)) f (λ v l. ap bit (least-joined v)) in
+        let same = sum-ext vertex_limit (λ v. bit (has S v)) f (λ v l. ap bit (least-joined v)) in
         let all : n + (vertex_limit - n) ≡ vertex_limit = omega arith in
         let short = reached-length g K start in
         let beyond = sum-ext (vertex_limit - n) (λ i. f (n + i)) (λ i. 0)

@@ -5,12 +5,14 @@ ghost use Rattle.std.specs.Prelude.{◌≡◌, ◌<◌, length};
 ghost use Rattle.base.specs.Limits.{vertex_limit};
 ghost use Rattle.graph.specs.declared.Network.{Network};
 ghost use Rattle.connection.specs.Connection.{connected, reached_count};
-ghost use Rattle.connection.specs.Search.{Columns};
+ghost use Rattle.connection.specs.Columns.{Columns};
 ghost use Rattle.connection.specs.Searchable.{Searchable};
 
 use base::EDGE_LIMIT;
+use edges::Edges;
 use graph::Network;
 
+mod edges;
 mod ends;
 mod search;
 mod words;
@@ -34,8 +36,13 @@ pub fn count_reached<'a, 'b>(
         → g.edges ≡ edges → length g.present ≡ vertex_limit → start < g.vertices
         → result ≡ reached_count g listed.now start }
 {
-    let reached = search::reach(low, high, listed, edges, start, first, next);
-    words::count(&reached.words)
+    let edges = Edges {
+        low,
+        high,
+        listed,
+        count: edges,
+    };
+    search::reach(&edges, start, first, next).count()
 }
 
 // How many vertices the listed edges join to the start vertex, itself included.

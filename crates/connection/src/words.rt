@@ -1,14 +1,14 @@
 // Sets of vertices, as bits in four words: vertex v is bit v % WORD_BITS of word v / WORD_BITS.
 ghost use Rattle.std.specs.Prelude.{◌≡◌, ◌%◌, ◌^◌, ◌<◌};
 ghost use Rattle.base.specs.Limits.{vertex_limit};
-ghost use Rattle.connection.specs.Words.{word_bits, Words, has, added, removed, lowest, size};
+ghost use Rattle.connection.specs.Words.{word_bits, vertex_set, has, empty, added, removed, lowest, size};
 
 use base::VERTEX_LIMIT;
 
 // The bits of a word, and the words of a set.
 const WORD_BITS: usize = 64;
 
-pub const WORDS: usize = VERTEX_LIMIT / WORD_BITS;
+const WORDS: usize = VERTEX_LIMIT / WORD_BITS;
 
 // The bit of vertex v in its word.
 fn bit_of(v: usize) -> u64
@@ -17,54 +17,73 @@ fn bit_of(v: usize) -> u64
     1u64 << (v % WORD_BITS)
 }
 
-// Whether vertex v is in the set.
-pub fn holds(words: &[u64], v: usize) -> bool
-    requires { Words words.now × (v < vertex_limit) }
-    ensures { result ≡ has words.now v }
+// How many bits are set in a set's words. It takes the array: the proof needs that each word is below 2 ^ 64, which
+// Rattle tells of a parameter's items, but not of those of a field, so the sum did not prove in `count`.
+fn bits_set(words: &[u64; WORDS]) -> usize
+    ensures { result ≡ size (vertex_set words.now) }
 {
-    (words[v / WORD_BITS] >> (v % WORD_BITS)) % 2 == 1
+    words.iter().map(|word| word.count_ones() as usize).sum()
 }
 
-// Puts vertex v into the set.
-pub fn add(words: &mut [u64], v: usize)
-    requires { Words words.old × (v < vertex_limit) }
-    ensures { words.new ≡ added words.old v }
-{
-    words[v / WORD_BITS] |= bit_of(v);
+#[derive(Clone, Copy)]
+pub struct VertexSet {
+    pub words: [u64; WORDS],
 }
 
-// Takes vertex v, which is in the set, out of it.
-pub fn remove(words: &mut [u64], v: usize)
-    requires { Words words.old × (v < vertex_limit) }
-    ensures { words.new ≡ removed words.old v }
-{
-    words[v / WORD_BITS] ^= bit_of(v);
-}
+impl VertexSet {
+    // The set of no vertex.
+    #[tactic(auto, unfolding(crate::specs::Words::empty))]
+    pub fn new() -> VertexSet
+        ensures { result ≡ empty }
+    {
+        VertexSet { words: [0; WORDS] }
+    }
 
-// The lowest vertex of the set, or VERTEX_LIMIT where it is empty.
-pub fn first(words: &[u64]) -> usize
-    requires { Words words.now }
-    ensures { result ≡ lowest words.now }
-{
-    let mut i = 0;
-    while i < WORDS {
-        let zeros = u64::trailing_zeros(words[i]) as usize;
-        if zeros < WORD_BITS {
-            return WORD_BITS * i + zeros;
+    // Whether vertex v is in the set.
+    #[tactic(auto, unfolding(crate::specs::Words::bit_at, crate::specs::Words::has))]
+    pub fn holds(&self, v: usize) -> bool
+        requires { v < vertex_limit }
+        ensures { result ≡ has self.now v }
+    {
+        (self.words[v / WORD_BITS] >> (v % WORD_BITS)) % 2 == 1
+    }
+
+    // Puts vertex v into the set.
+    #[tactic(auto, unfolding(crate::specs::Words::added))]
+    pub fn add(&mut self, v: usize)
+        requires { v < vertex_limit }
+        ensures { self.new ≡ added self.old v }
+    {
+        self.words[v / WORD_BITS] |= bit_of(v);
+    }
+
+    // Takes vertex v, which is in the set, out of it.
+    #[tactic(auto, unfolding(crate::specs::Words::removed))]
+    pub fn remove(&mut self, v: usize)
+        requires { v < vertex_limit }
+        ensures { self.new ≡ removed self.old v }
+    {
+        self.words[v / WORD_BITS] ^= bit_of(v);
+    }
+
+    // The lowest vertex of the set, or VERTEX_LIMIT where it is empty: the promise has the definition `lowest`, which
+    // says so.
+    pub fn first(&self) -> usize
+        ensures { result ≡ lowest self.now.words }
+    {
+        for (i, word) in self.words.iter().enumerate() {
+            let zeros = word.trailing_zeros() as usize;
+            if zeros < WORD_BITS {
+                return WORD_BITS * i + zeros;
+            }
         }
-        i += 1;
+        VERTEX_LIMIT
     }
-    VERTEX_LIMIT
-}
 
-// How many vertices are in the set.
-pub fn count(words: &[u64]) -> usize
-    requires { Words words.now }
-    ensures { result ≡ size words.now }
-{
-    let mut total: usize = 0;
-    for i in 0..WORDS {
-        total += u64::count_ones(words[i]) as usize;
+    // How many vertices are in the set.
+    pub fn count(&self) -> usize
+        ensures { result ≡ size self.now }
+    {
+        bits_set(&self.words)
     }
-    total
 }

@@ -11,13 +11,15 @@ use lib.Seq.{get_or-set_same, get_or-set_other}
 use lib.IntN.{ℤ, pos, nat_abs, ◌+ℤ◌, +ℤ_idr}
 use mir.Syntax.{w64}
 use mir.Val.{SFits, to_z, of_z}
+use mir.Facts.{to_z-of_z}
 use Rattle.base.specs.Fold.{fold, sumℤ}
 use Rattle.graph.specs.Network.{cost_of, cost_over, kept, kept_cost, all_but_reserved}
 use Rattle.graph.specs.Sound.{weight, Light}
 use Rattle.graph.specs.declared.Network.{Network}
+use Rattle.graph.proofs.Differences.{cost-below, cost-kept}
 use Rattle.base.proofs.Bools.{eqb-self, eqb_no}
 use Rattle.base.proofs.Sums.{fold_more, fold-ext, sum-le, sum-fewer}
-use Rattle.base.proofs.Integers.{size-plus, size_fits, read_back, sumℤ-size}
+use Rattle.base.proofs.Integers.{size-plus, size_fits, sumℤ-size}
 
 -- the cost of the marked edges among the first e
 abbrev pub cost_among : Network → List Bool → ℕ → ℤ
@@ -76,6 +78,22 @@ module _ (g : Network) (light : Light g) where
   pub reserved-small : nat_abs (all_but_reserved g) < 2 ^ 62
   reserved-small = omega (arith, reserved-weight g)
 
+  -- the cost of one more edge fits behind the cost of the marked edges below it, and is read back from its bits
+  module _ (K : List Bool) (e : ℕ) (l : e < g.edges) {a : ℤ} (so-far : a ≡ cost_among g K e) where
+    pub next-fits : SFits w64 (a +ℤ to_z w64 (of_z w64 (cost_of g e)))
+    next-fits =
+        rw (so-far, cost-kept g light e l)
+        (size_fits _
+        (omega (
+          arith,
+          size-plus (cost_among g K e) (cost_of g e),
+          among-small K e (omega arith),
+          cost-below g light e l,
+        )))
+
+    pub next-is : to_z w64 (of_z w64 (a +ℤ to_z w64 (of_z w64 (cost_of g e)))) ≡ cost_among g K e +ℤ cost_of g e
+    next-is = to_z-of_z next-fits ∙ rw (so-far, cost-kept g light e l) refl
+
 -- n marks but the reserved one
 pub all-marks : (n : ℕ) (g : Network) → g.edges ≤ n → g.reserved < n
     → kept_cost g (set (replicate n true) g.reserved false) ≡ all_but_reserved g
@@ -92,17 +110,3 @@ all-marks n g room r =
           rw (eqb_no q)
           (get_or-set_other (replicate n true) g.reserved e false false q ∙ get_or-replicate n e true false l)
     ]
-
--- ── sums that fit ──
-
--- sizes below 2 to the power 62 leave room for a sum
-module _ (a b : ℤ) (ha : nat_abs a < 2 ^ 62) (hb : nat_abs b < 2 ^ 62) where
-  small : nat_abs (a +ℤ b) < 2 ^ 63
-  small = omega (arith, size-plus a b)
-
-  pub sum_fits : SFits w64 (to_z w64 (of_z w64 a) +ℤ to_z w64 (of_z w64 b))
-  sum_fits =
-      rw (read_back a (omega arith), read_back b (omega arith)) (size_fits (a +ℤ b) small)
-
-  pub sum_is : to_z w64 (of_z w64 (to_z w64 (of_z w64 a) +ℤ to_z w64 (of_z w64 b))) ≡ a +ℤ b
-  sum_is = rw (read_back a (omega arith), read_back b (omega arith)) (read_back (a +ℤ b) small)

@@ -41,6 +41,11 @@ pub record Tested (edges : ℕ) (ends : List ℕ) (present : List Bool) (anchor 
   pub apart : (v : ℕ) → v < n → anchor < v → get_or present v false ≡ true
       → (g : Network) → Laid g ends → g.edges ≡ edges → (S : Side) → Lowest present S v → 4 ≤ crossings g S
 
+-- a present vertex that is first comes before every later one
+pub anchor-before : {present : List Bool} {n anchor v : ℕ} → FirstOf present n anchor → anchor < v → v < n
+    → Before present v anchor
+anchor-before a l h = record { earlier = l; is_present = a.is_present (omega arith) }
+
 pub tested-none : {edges : ℕ} {ends : List ℕ} {present : List Bool} {anchor : ℕ}
     → Tested edges ends present anchor (anchor + 1)
 tested-none = record { apart = λ v l k. absurd (omega arith) }

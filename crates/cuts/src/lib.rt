@@ -11,19 +11,15 @@ ghost use Rattle.cuts.specs.Anchor.{FirstOf};
 use flow::{Pair, four_apart, four_paths, gather, lay, wire};
 use graph::Network;
 
-// The first present vertex, or the number of vertices where none is present.
+// The first present vertex, or the number of vertices where none is present: the definition `FirstOf` has it so.
 fn first_present(present: &[bool], vertices: usize) -> usize
     requires { vertices ≤ length present.now }
     ensures { FirstOf present.now vertices result }
 {
-    let mut vertex = 0;
-    while vertex < vertices {
-        if present[vertex] {
-            return vertex;
-        }
-        vertex += 1;
-    }
-    vertex
+    present[..vertices]
+        .iter()
+        .position(|is_present| *is_present)
+        .unwrap_or(vertices)
 }
 
 // Whether every cut is crossed by at least four edges: the lowest vertex in a part without the first
@@ -33,15 +29,11 @@ pub fn every_cut_four(network: Network) -> bool
     requires { Formed network }
     ensures { result ≡ every_cut 4 network }
 {
-    let present = network.present;
-    let vertices = network.vertices;
-    let edges = network.edges;
     let mut ends = lay(network);
     let ports = wire(&ends);
-    let anchor = first_present(&present, vertices);
-    let mut vertex = anchor + 1;
-    while vertex < vertices {
-        if present[vertex] {
+    let anchor = first_present(&network.present, network.vertices);
+    for vertex in anchor + 1..network.vertices {
+        if network.present[vertex] {
             let source = vertex as u8;
             let sink = anchor as u8;
             let four = four_paths(
@@ -59,9 +51,8 @@ pub fn every_cut_four(network: Network) -> bool
             if !four {
                 return false;
             }
-            gather(&mut ends, edges, source, sink);
+            gather(&mut ends, network.edges, source, sink);
         }
-        vertex += 1;
     }
     true
 }

@@ -94,6 +94,10 @@ some-digit (suc more) v rest = go (ltb v 10) (some-digit more (v / 10) (digit (v
     go true h = omega arith
     go false h = omega arith
 
+pub any-digit : (v : ℕ) → 0 < length (digits v)
+unfolding digits
+any-digit v = some-digit v v []
+
 -- w + 1 digits have room for the numbers below 10^(w + 1)
 count-digits : (more v : ℕ) (rest : List ℕ) → v ≤ more → (w : ℕ)
     → leb (length (digits_then more v rest)) (suc w + length rest) ≡ ltb v (10 ^ suc w)

@@ -10,12 +10,12 @@ use lib.Dec.{leb, leb-suc-suc, ltb}
 use lib.ListN.{length, take, get_or, set, replicate, length-append, length-replicate, replicate-append-replicate}
 use lib.Seq.{append_snoc, set_at, take_at}
 use lib.IntN.{ℤ, pos, negsuc, neg_ℤ, nat_abs}
-use lib.Signed.{mag, lt_z}
+use lib.Signed.{lt_z}
 use borrow.Author.Tests.{le-ltb, lt-ltb, lt-leb, leb-true, ne_eqb}
 use Rattle.base.proofs.Bools.{never}
 use Rattle.decimal.specs.BaseTen.{space, minus, digit, digits, in_base_ten, aligned, fits, value_then, number_in}
 use Rattle.decimal.specs.RightAligned.{AllDigits, RightAligned}
-use Rattle.decimal.proofs.Digits.{Leading, value-digits, leading, only-digits, some-digit, room-digits}
+use Rattle.decimal.proofs.Digits.{Leading, value-digits, leading, only-digits, any-digit, room-digits}
 
 -- ── which numbers fit ──
 
@@ -23,8 +23,7 @@ room : (w : ℕ) (z : ℤ) → fits (suc w) z ≡ (lt_z (negsuc (10 ^ w - 1)) z 
 unfolding fits in_base_ten
 room w (pos v) = room-digits w v
 room zero (negsuc v) =
-    let some : 0 < length (digits (suc v)) = unfold digits in some-digit (suc v) (suc v) [] in
-    lt-leb (suc (length (digits (suc v)))) 1 (omega arith) ∙ sym (rw (le-ltb v (10 ^ 0 - 1) (omega arith)))
+    lt-leb (suc (length (digits (suc v)))) 1 (omega (arith, any-digit (suc v))) ∙ sym (rw (le-ltb v (10 ^ 0 - 1) (omega arith)))
 room (suc w) (negsuc v) = same_size ∙ room-digits w (suc v) ∙ below (10 ^ suc w)
   where
     same_size : leb (suc (length (digits (suc v)))) (suc (suc w)) ≡ leb (length (digits (suc v))) (suc w)
@@ -38,7 +37,7 @@ room (suc w) (negsuc v) = same_size ∙ room-digits w (suc v) ∙ below (10 ^ su
 
 no_room : (z : ℤ) → fits 0 z ≡ false
 unfolding fits in_base_ten
-no_room (pos v) = lt-leb (length (digits v)) 0 (unfold digits in some-digit v v [])
+no_room (pos v) = lt-leb (length (digits v)) 0 (any-digit v)
 no_room (negsuc v) = lt-leb (suc (length (digits (suc v)))) 0 (omega arith)
 
 width : (w : ℕ) (z : ℤ) → fits w z ≡ true → length (aligned w z) ≡ w
@@ -117,11 +116,6 @@ right-aligned = record {
 
 -- ── what the code needs ──
 
--- the size of a negative number is one more than what is below 0
-pub negative-size : (z : ℤ) → lt_z z (pos 0) ≡ true → mag z + 1 ≡ nat_abs z
-negative-size (pos v) h = never (sym (le-ltb v 0 (omega arith)) ∙ h)
-negative-size (negsuc v) h = omega arith
-
 -- a number by its sign
 positive-printed : (z : ℤ) → lt_z z (pos 0) ≡ false → in_base_ten z ≡ digits (nat_abs z)
 unfolding in_base_ten
@@ -132,6 +126,33 @@ negative-printed : (z : ℤ) → lt_z z (pos 0) ≡ true → in_base_ten z ≡ m
 unfolding in_base_ten
 negative-printed (pos v) h = never (sym (le-ltb v 0 (omega arith)) ∙ h)
 negative-printed (negsuc v) h = refl
+
+-- the first of nothing but spaces
+pub take-spaces : (k w : ℕ) → k ≤ w → take k (replicate w space) ≡ replicate k space
+take-spaces k w h =
+    let e : w ≡ k + (w - k) = omega arith in
+    ap (λ m. take k (replicate m space)) e
+    ∙ ap (take k) (sym (replicate-append-replicate k (w - k) space))
+    ∙ take_at (replicate k space) (replicate (w - k) space) k (length-replicate k space)
+
+-- digits of a number's size that end w characters, spaces before the first of them
+record Behind (z : ℤ) (w first : ℕ) (out : List ℕ) : Type 0 where
+  room : first + length (digits (nat_abs z)) ≡ w
+  text : out ≡ replicate first space ++ digits (nat_abs z)
+
+-- so are digits that are written over the last of w spaces
+written-behind : {y z : ℤ} {w size : ℕ} {spaces out : List ℕ} → y ≡ z → size ≡ nat_abs y
+    → spaces ≡ replicate w space → (first : ℕ)
+    → (first + length (digits size) ≡ length spaces) × (out ≡ take first spaces ++ digits size)
+    → Behind z w first out
+written-behind {z = z} {w = w} kept size blank first written =
+    let is = size ∙ ap nat_abs kept in
+    let room : first + length (digits (nat_abs z)) ≡ w =
+    omega (arith, written.0, ap (λ v. length (digits v)) is, ap length blank, length-replicate w space) in
+    record {
+      room = room;
+      text = written.1 ∙ rw (blank, is, take-spaces first w (omega (arith, room)));
+    }
 
 module _ (z : ℤ) (w : ℕ) (fit : fits w z ≡ true) where
   room-is : length (in_base_ten z) ≤ w
@@ -146,37 +167,42 @@ module _ (z : ℤ) (w : ℕ) (fit : fits w z ≡ true) where
       go false h = omega (arith, room-is, ap length (positive-printed z h))
 
   -- digits behind spaces, from the place of the first on
-  module _ (first : ℕ) (n : first + length (digits (nat_abs z)) ≡ w) where
-    pub positive-aligned : lt_z z (pos 0) ≡ false → replicate first space ++ digits (nat_abs z) ≡ aligned w z
+  module _ {first : ℕ} {out : List ℕ} (behind : Behind z w first out) where
+    positive-aligned : lt_z z (pos 0) ≡ false → out ≡ aligned w z
     unfolding aligned
     positive-aligned h =
         let p = positive-printed z h in
-        let e : first ≡ w - length (in_base_ten z) = omega (arith, ap length p) in
-        rw (← e, p)
+        let e : first ≡ w - length (in_base_ten z) = omega (arith, behind.room, ap length p) in
+        behind.text ∙ rw (← e, p)
 
-    pub minus-place : lt_z z (pos 0) ≡ true → 0 < first
-    minus-place h = omega (arith, room-is, ap length (negative-printed z h))
+    minus-place : lt_z z (pos 0) ≡ true → 0 < first
+    minus-place h = omega (arith, behind.room, room-is, ap length (negative-printed z h))
 
     -- the minus takes the place of the last space
-    pub negative-aligned : lt_z z (pos 0) ≡ true
-        → set (replicate first space ++ digits (nat_abs z)) (first - 1) minus ≡ aligned w z
+    negative-aligned : lt_z z (pos 0) ≡ true → set out (first - 1) minus ≡ aligned w z
     unfolding aligned
     negative-aligned h =
         let p = negative-printed z h in
         let k = first - 1 in
-        let e : k ≡ w - length (in_base_ten z) = omega (arith, ap length p, minus-place h) in
-        let one : k + 1 ≡ first = omega (arith, minus-place h) in
+        let some = minus-place h in
+        let e : k ≡ w - length (in_base_ten z) = omega (arith, behind.room, ap length p) in
+        let one : k + 1 ≡ first = omega arith in
         let last : replicate first space ≡ replicate k space ++ (space ∷ []) =
         sym (replicate-append-replicate k 1 space ∙ ap (λ m. replicate m space) one) in
-        ap (λ s. set (s ++ digits (nat_abs z)) k minus) last
+        ap (λ s. set s k minus) behind.text
+        ∙ ap (λ s. set (s ++ digits (nat_abs z)) k minus) last
         ∙ ap (λ s. set s k minus) (append_snoc (replicate k space) space (digits (nat_abs z)))
         ∙ set_at (replicate k space) space (digits (nat_abs z)) minus k (length-replicate k space)
         ∙ rw (← e, p)
 
--- the first of nothing but spaces
-pub take-spaces : (k w : ℕ) → k ≤ w → take k (replicate w space) ≡ replicate k space
-take-spaces k w h =
-    let e : w ≡ k + (w - k) = omega arith in
-    ap (λ m. take k (replicate m space)) e
-    ∙ ap (take k) (sym (replicate-append-replicate k (w - k) space))
-    ∙ take_at (replicate k space) (replicate (w - k) space) k (length-replicate k space)
+-- where they are of a number that fits, the text is complete, but for the minus of a negative one
+pub written-aligned : (w : ℕ) {y z : ℤ} {size : ℕ} {spaces out : List ℕ} → fits w z ≡ true → y ≡ z → size ≡ nat_abs y
+    → spaces ≡ replicate w space → (first : ℕ)
+    → (first + length (digits size) ≡ length spaces) × (out ≡ take first spaces ++ digits size)
+    → (lt_z y (pos 0) ≡ true → (0 < first) × (set out (first - 1) minus ≡ aligned w z))
+    × (lt_z y (pos 0) ≡ false → out ≡ aligned w z)
+written-aligned w {z = z} fit kept size blank first written =
+    let behind = written-behind kept size blank first written in (
+      λ below. let h = rw kept at below in (minus-place z w fit behind h, negative-aligned z w fit behind h),
+      λ above. positive-aligned z w fit behind (rw kept at above),
+    )

@@ -10,18 +10,6 @@ const SPACE: u8 = b' ';
 
 const MINUS: u8 = b'-';
 
-// The size of a number, without its sign.
-fn size_of(number: i64) -> u64
-    ensures { result ≡ nat_abs number }
-{
-    if number < 0 {
-        let below = (-1 - number) as u64;
-        below + 1
-    } else {
-        number as u64
-    }
-}
-
 // Writes the digits of a number to the end of `out`, and answers where the first of them stands.
 fn put_digits(out: &mut [u8], number: u64) -> usize
     requires { length (digits number) ≤ length out.old }
@@ -30,10 +18,11 @@ fn put_digits(out: &mut [u8], number: u64) -> usize
 {
     let mut at = out.len() - 1;
     let mut left = number;
+    // A `for` over the places would need an answer for the case that none is left, which the contract excludes.
     while BASE <= left {
         out[at] = b'0' + (left % BASE) as u8;
         at -= 1;
-        left = left / BASE;
+        left /= BASE;
     }
     out[at] = b'0' + left as u8;
     at
@@ -43,11 +32,7 @@ fn put_digits(out: &mut [u8], number: u64) -> usize
 pub fn put_spaces(out: &mut [u8])
     ensures { out.new ≡ replicate (length out.old) space }
 {
-    let mut i = 0;
-    while i < out.len() {
-        out[i] = SPACE;
-        i += 1;
-    }
+    out.fill(SPACE);
 }
 
 // Prints a number over the whole of `out`, which has room for it: spaces, a minus before a negative one, its digits.
@@ -56,7 +41,7 @@ pub fn put_aligned(out: &mut [u8], number: i64)
     ensures { out.new ≡ aligned (length out.old) number }
 {
     put_spaces(out);
-    let first = put_digits(out, size_of(number));
+    let first = put_digits(out, number.unsigned_abs());
     if number < 0 {
         out[first - 1] = MINUS;
     }

@@ -14,7 +14,7 @@ use lib.Seq.{drop-cons, drop-set-lt, get_or-set_same, drop_at, take_at}
 use lib.Arith.{digits_div, digits_mod}
 use borrow.Author.Tests.{le-ltb, lt-ltb, ltb-true}
 use Rattle.digits.specs.Hexadecimal.{value_of, digit_of, all_digits, number_of, number_in, spell}
-use Rattle.digits.specs.declared.hexadecimal.Number.TheVariants.{Spelt, Broken}
+use Rattle.std.proofs.Common.{Some, None}
 use Rattle.base.proofs.Bools.{no_answer, and_left, and_right}
 use Rattle.digits.proofs.Values.{digit_value, value-digit}
 
@@ -96,14 +96,14 @@ pub reading-none : (s : List ℕ) → Reading s 0 0
 reading-none s = record { within = omega arith; room = lit< tt; number = refl; digits = refl }
 
 module _ (s : List ℕ) (v i : ℕ) (r : Reading s v i) where
-  pub reading-end : length s ≤ i → Spelt v ≡ number_in s
+  pub reading-end : length s ≤ i → Some v ≡ number_in s
   unfolding number_of all_digits number_in
   reading-end h =
       let e : drop i s ≡ [] = drop_of_length-le s h in
-      rw (← r.digits, e) (rw e at (ap Spelt r.number))
+      rw (← r.digits, e) (rw e at (ap Some r.number))
 
   module _ (d : ℕ) (e : d ≡ value_of (get_or s i 0)) (h : i < length s) where
-    pub reading-stop : 16 ≤ d → Broken ≡ number_in s
+    pub reading-stop : 16 ≤ d → None ≡ number_in s
     unfolding all_digits number_in
     reading-stop l =
         let x : all_digits (drop i s) ≡ false = rw (drop-cons s i 0, le-ltb (value_of (get_or s i 0)) 16 (omega arith)) in
@@ -143,19 +143,19 @@ spell-end zero v out h = refl
 spell-end (suc i) v out h = absurd (omega arith)
 
 -- what a number that was read says of its bytes
-pub number_is : (s : List ℕ) (v : ℕ) → Spelt v ≡ number_in s → (all_digits s ≡ true) × (v ≡ number_of 0 s)
+pub number_is : (s : List ℕ) (v : ℕ) → Some v ≡ number_in s → (all_digits s ≡ true) × (v ≡ number_of 0 s)
 unfolding number_in
 number_is s v e = go (all_digits s) refl e
   where
-    go : (b : Bool) → all_digits s ≡ b → Spelt v ≡ cond b (Spelt (number_of 0 s)) Broken
+    go : (b : Bool) → all_digits s ≡ b → Some v ≡ cond b (Some (number_of 0 s)) None
         → (all_digits s ≡ true) × (v ≡ number_of 0 s)
     go true d p = (d, cc)
     go false d p = no_answer (cc)
 
-pub number-broken : (s : List ℕ) → Broken ≡ number_in s → all_digits s ≡ false
+pub number-broken : (s : List ℕ) → None ≡ number_in s → all_digits s ≡ false
 unfolding number_in
 number-broken s e = go (all_digits s) refl e
   where
-    go : (b : Bool) → all_digits s ≡ b → Broken ≡ cond b (Spelt (number_of 0 s)) Broken → all_digits s ≡ false
+    go : (b : Bool) → all_digits s ≡ b → None ≡ cond b (Some (number_of 0 s)) None → all_digits s ≡ false
     go true d p = no_answer (cc)
     go false d p = d

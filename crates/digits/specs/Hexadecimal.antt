@@ -1,8 +1,6 @@
 -- Numbers spelt in hexadecimal digits, the high digit first.
-use Rattle.std.specs.Prelude.{Bool, true, cond, ◌&&◌, List, [], ◌∷◌, ℕ, zero, suc, ◌+◌, ◌*◌, ◌-◌, ◌/◌, ◌%◌, leb, ltb}
+use Rattle.std.specs.Prelude.{Bool, true, cond, ◌&&◌, List, [], ◌∷◌, ℕ, zero, suc, ◌+◌, ◌*◌, ◌-◌, ◌/◌, ◌%◌, leb, ltb, Option, Some, None}
 use Rattle.base.specs.Fold.{tabulate}
-use Rattle.digits.specs.declared.hexadecimal.Number.{Number}
-use Rattle.digits.specs.declared.hexadecimal.Number.TheVariants.{Spelt, Broken}
 
 -- the value of a digit 0-9 or a-f, and 16 of any other byte
 unfoldable pub value_of : ℕ → ℕ
@@ -31,8 +29,8 @@ number_of v [] = v
 number_of v (c ∷ s) = number_of (v * 16 + value_of c) s
 
 -- the number that bytes spell, where all are digits
-unfoldable pub number_in : List ℕ → Number
-number_in s = cond (all_digits s) (Spelt (number_of 0 s)) Broken
+unfoldable pub number_in : List ℕ → Option ℕ
+number_in s = cond (all_digits s) (Some (number_of 0 s)) None
 
 -- the last d digits of v, and then rest
 unfoldable pub spell : ℕ → ℕ → List ℕ → List ℕ

@@ -7,13 +7,6 @@ const BASE: u64 = 16;
 
 pub const BYTE_VALUES: usize = 256;
 
-// The number that digits spell, or that a byte among them is no digit.
-#[derive(Clone, Copy)]
-pub enum Number {
-    Spelt(u64),
-    Broken,
-}
-
 // The digit of a value.
 fn digit_of(value: u64) -> u8
     requires { value < 16 }
@@ -31,11 +24,8 @@ pub fn digit_values() -> [u8; BYTE_VALUES]
     ensures { result ≡ digit_values }
 {
     let mut values = [BASE as u8; BYTE_VALUES];
-    let mut value = 0;
-    while value < BASE {
-        let digit = digit_of(value);
-        values[digit as usize] = value as u8;
-        value += 1;
+    for value in 0..BASE {
+        values[digit_of(value) as usize] = value as u8;
     }
     values
 }
@@ -48,33 +38,29 @@ fn value_of(values: &[u8; BYTE_VALUES], byte: u8) -> u64
     values[byte as usize] as u64
 }
 
-// The number that at most sixteen digits spell.
-pub fn read_number(text: &[u8], values: &[u8; BYTE_VALUES]) -> Number
+// The number that at most sixteen bytes spell, if all are digits.
+pub fn read_number(text: &[u8], values: &[u8; BYTE_VALUES]) -> Option<u64>
     requires { (length text.now ≤ 16) × (values.now ≡ digit_values) }
     ensures { result ≡ number_in text.now }
 {
-    let mut number: u64 = 0;
-    let mut i = 0;
-    while i < text.len() {
-        let value = value_of(values, text[i]);
+    let mut number = 0;
+    for &byte in text {
+        let value = value_of(values, byte);
         if BASE <= value {
-            return Number::Broken;
+            return None;
         }
         number = number * BASE + value;
-        i += 1;
     }
-    Number::Spelt(number)
+    Some(number)
 }
 
 // Spells the last digits of a number, as many as `out` has bytes.
 pub fn put_number(out: &mut [u8], number: u64)
     ensures { out.new ≡ spell (length out.old) number [] }
 {
-    let mut i = out.len();
     let mut left = number;
-    while 0 < i {
-        i -= 1;
+    for i in (0..out.len()).rev() {
         out[i] = digit_of(left % BASE);
-        left = left / BASE;
+        left /= BASE;
     }
 }

@@ -4,5 +4,5 @@
 mod hexadecimal;
 mod sign;
 
-pub use hexadecimal::{BYTE_VALUES, Number, digit_values, put_number, read_number};
+pub use hexadecimal::{BYTE_VALUES, digit_values, put_number, read_number};
 pub use sign::{signed_of, unsigned_of};

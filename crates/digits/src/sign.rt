@@ -11,7 +11,7 @@ fn half_of(digits: usize) -> u64
     1 << (4 * digits - 1)
 }
 
-// The signed number of a field's number.
+// The signed number of a field's number. A field has any number of digits, so no cast between fixed widths does it.
 pub fn signed_of(number: u64, digits: usize) -> i64
     requires { (0 < digits) × (digits ≤ 16) × (number < 16 ^ digits) }
     ensures { result ≡ signed_of digits number }

@@ -4,21 +4,15 @@ use lib.Dec.{T, leb, ltb, lit<, lit≤}
 use Rattle.base.specs.Fold.{fold}
 use Rattle.graph.specs.Network.{far}
 use Rattle.graph.specs.Split.{split}
-use Rattle.graph.specs.Sound.{weight, Light}
+use Rattle.graph.specs.Sound.{weight}
 use Rattle.base.specs.Limits.{edge_limit}
 use Rattle.graph.specs.State.{Splittable}
 use Rattle.graph.specs.declared.Network.{Network}
 use Rattle.examples.specs.District.{network, triangle, square}
 
--- the networks that the steps leave
-abbrev pub triangle-end : Network
-triangle-end = split triangle 1 4 5 1
-
-abbrev pub square-middle : Network
+-- the network that the first step of the square leaves
+abbrev square-middle : Network
 square-middle = split square 2 3 2 7
-
-abbrev pub square-end : Network
-square-end = split square-middle 3 5 7 6
 
 -- of a network that is written out, each part is a test that computes
 splits : (g : Network) (x y z : ℕ)
@@ -47,11 +41,3 @@ square-step = splits square 3 2 7 tt tt tt tt tt tt tt
 pub square-next : Splittable square-middle 5 7 6
 unfolding network weight fold split far
 square-next = splits square-middle 5 7 6 tt tt tt tt tt tt tt
-
-pub triangle-light : Light triangle-end
-unfolding network weight fold split far
-triangle-light = lit< tt
-
-pub square-light : Light square-end
-unfolding network weight fold split far
-square-light = lit< tt

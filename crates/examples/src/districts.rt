@@ -12,58 +12,33 @@ fn first(n: usize) -> [bool; VERTEX_LIMIT]
     ensures { result ≡ filled vertex_limit (replicate n true) false }
 {
     let mut marks = [false; VERTEX_LIMIT];
-    let mut v = 0;
-    while v < n {
-        marks[v] = true;
-        v += 1;
-    }
+    marks[..n].fill(true);
     marks
 }
 
-// A column of ends.
-fn ends(list: &[u8]) -> [u8; EDGE_LIMIT]
+// A column that begins with a list and has one element from there on.
+fn column<T: Copy>(list: &[T], rest: T) -> [T; EDGE_LIMIT]
     requires { length list.now ≤ edge_limit }
-    ensures { result ≡ filled edge_limit list.now 0 }
+    ensures { result ≡ filled edge_limit list.now rest }
 {
-    let mut column = [0u8; EDGE_LIMIT];
-    let mut e = 0;
-    while e < list.len() {
-        column[e] = list[e];
-        e += 1;
-    }
-    column
-}
-
-// A column of costs.
-fn costs(list: &[i64]) -> [i64; EDGE_LIMIT]
-    requires { length list.now ≤ edge_limit }
-    ensures { result ≡ filled edge_limit list.now (pos 0) }
-{
-    let mut column = [0i64; EDGE_LIMIT];
-    let mut e = 0;
-    while e < list.len() {
-        column[e] = list[e];
-        e += 1;
-    }
+    let mut column = [rest; EDGE_LIMIT];
+    column[..list.len()].copy_from_slice(list);
     column
 }
 
 // A network of n cabinets, its reserved cable, and the ends and costs of its cables.
-fn network<'a>(n: usize, reserved: usize, low: &'a [u8], high: &'a [u8], cost: &'a [i64]) -> Network
+#[tactic(auto, unfolding(crate::specs::District::network))]
+fn network(n: usize, reserved: usize, low: &[u8], high: &[u8], cost: &[i64]) -> Network
     requires n_le_vertex_limit { (n ≤ vertex_limit) × (length low.now ≤ edge_limit) }
     requires high_len_bound { (length high.now ≤ edge_limit) × (length cost.now ≤ edge_limit) }
     ensures { result ≡ network n reserved low.now high.now cost.now }
 {
-    let low_ends = ends(low);
-    let high_ends = ends(high);
-    let working = costs(cost);
-    let present = first(n);
     Network {
-        low: low_ends,
-        high: high_ends,
-        cost: working,
-        present: present,
-        reserved: reserved,
+        low: column(low, 0),
+        high: column(high, 0),
+        cost: column(cost, 0),
+        present: first(n),
+        reserved,
         edges: low.len(),
         vertices: n,
         remaining: n,

@@ -12,12 +12,9 @@ pub fn degrees_of(g: Network) -> [u16; VERTEX_LIMIT]
     requires { g.edges ≤ edge_limit }
     ensures { result ≡ degrees_of g }
 {
-    let edges = g.edges;
     let mut tally = [0u16; VERTEX_LIMIT];
-    let mut e = 0;
-    while e < edges {
+    for e in 0..g.edges {
         tally_edge(&mut tally, g.low[e], g.high[e]);
-        e += 1;
     }
     tally
 }

@@ -16,6 +16,7 @@ use Rattle.base.specs.Columns.{at}
 use Rattle.flow.specs.Arcs.{arc_limit, reverse, tail, head, leaving, carried, capacity, Balanced}
 use Rattle.flow.specs.Search.{Link, Tree}
 use Rattle.flow.specs.Flow.{pushed, Sendable, Sent}
+use Rattle.flow.specs.declared.search.Search.{Search}
 use Rattle.flow.proofs.Reaching.{clock-most}
 
 -- another capacity for one arc
@@ -106,34 +107,34 @@ module _ {residual : List ℕ} (b : Balanced residual) (p : ℕ) (arc : p < arc_
         push-leaving (S (tail ends p)) (S (head ends p)) _ _ _ _ _ carries first (rw (back, same) at second)
 
 -- a unit is on its way back along the trail: it has still to come to the vertex of this number
-pub record Partway (ends order trail : List ℕ) (target : ℕ) (residual₀ residual : List ℕ) (number : ℕ) : Type 0 where
+pub record Partway (ends : List ℕ) (s : Search) (target : ℕ) (residual₀ residual : List ℕ) (number : ℕ) : Type 0 where
   pub vertex : ℕ
-  pub numbered : at order vertex ≡ number
+  pub numbered : at s.order vertex ≡ number
   pub some : 1 ≤ number
   pub balanced : Balanced residual
-  pub ahead : (w : ℕ) → 2 ≤ at order w → at order w ≤ number → 1 ≤ at residual (at trail (at order w))
+  pub ahead : (w : ℕ) → 2 ≤ at s.order w → at s.order w ≤ number → 1 ≤ at residual (at s.trail (at s.order w))
   pub spent : (S : Side) → capacity ends residual S + bit (S vertex) ≡ capacity ends residual₀ S + bit (S target)
 
-module _ {ends residual₀ order trail : List ℕ} {target : ℕ} (s : Sendable ends residual₀ order trail target) where
-  tree : Tree ends residual₀ order trail s.back.0
-  tree = s.back.1
+module _ {ends residual₀ : List ℕ} {s : Search} {target : ℕ} (sendable : Sendable ends residual₀ s target) where
+  tree : Tree ends residual₀ s
+  tree = sendable.tree
 
-  pub partway-none : Partway ends order trail target residual₀ residual₀ (at order target)
+  pub partway-none : Partway ends s target residual₀ residual₀ (at s.order target)
   partway-none = record {
     vertex = target;
     numbered = refl;
-    some = s.is_reached;
-    balanced = s.balanced;
+    some = sendable.is_reached;
+    balanced = sendable.balanced;
     ahead = λ w h _. (tree.link w h).carries;
     spent = λ S. refl;
   }
 
-  module _ {residual : List ℕ} {number : ℕ} (way : Partway ends order trail target residual₀ residual number) where
+  module _ {residual : List ℕ} {number : ℕ} (way : Partway ends s target residual₀ residual number) where
     pub number-most : number ≤ vertex_limit
     number-most = omega (arith, tree.numbered way.vertex, way.numbered, clock-most tree)
 
     -- the unit has come to a source
-    pub partway-sent : number ≤ 1 → Sent ends order target residual₀ residual
+    pub partway-sent : number ≤ 1 → Sent ends s.order target residual₀ residual
     partway-sent le = record {
       balanced = way.balanced;
       spent = λ S sources.
@@ -143,30 +144,30 @@ module _ {ends residual₀ order trail : List ℕ} {target : ℕ} (s : Sendable 
 
     module _ (more : 2 ≤ number) where
       -- the arc by which the vertex was reached
-      pub link-back : Link ends residual₀ order (at trail number) way.vertex
+      pub link-back : Link ends residual₀ s.order (at s.trail number) way.vertex
       link-back = rw way.numbered at (tree.link way.vertex (omega (arith, way.numbered)))
 
-      pub carries-back : 1 ≤ at residual (at trail number)
+      pub carries-back : 1 ≤ at residual (at s.trail number)
       carries-back = rw way.numbered at
           (way.ahead way.vertex (omega (arith, way.numbered)) (omega (arith, way.numbered)))
 
       -- no vertex before it was reached by the same arc
-      another-arc : (w : ℕ) → 2 ≤ at order w → at order w < number → at trail (at order w) ≢ at trail number
+      another-arc : (w : ℕ) → 2 ≤ at s.order w → at s.order w < number → at s.trail (at s.order w) ≢ at s.trail number
       another-arc w h l e =
-          let same : at order w ≡ at order way.vertex = cc ((tree.link w h).arrives, link-back.arrives) in
+          let same : at s.order w ≡ at s.order way.vertex = cc ((tree.link w h).arrives, link-back.arrives) in
           omega (arith, way.numbered)
 
       -- one arc further back: the part of its tail replaces that of its head, so that what lies between cancels
-      pub partway-on : Partway ends order trail target residual₀ (pushed residual (at trail number))
-          (at order (tail ends (at trail number)))
+      pub partway-on : Partway ends s target residual₀ (pushed residual (at s.trail number))
+          (at s.order (tail ends (at s.trail number)))
       partway-on = record {
         vertex = tail ends p;
         numbered = refl;
         some = link-back.from;
         balanced = pushed-balanced way.balanced p link-back.arc carries-back;
         ahead = λ w h le.
-            let l : at order w < number = omega (arith, way.numbered, link-back.earlier) in
-            pushed-carries way.balanced p link-back.arc (at trail (at order w)) (another-arc w h l)
+            let l : at s.order w < number = omega (arith, way.numbered, link-back.earlier) in
+            pushed-carries way.balanced p link-back.arc (at s.trail (at s.order w)) (another-arc w h l)
             (way.ahead w h (omega arith));
         spent = λ S.
             let one = capacity-pushed way.balanced p link-back.arc carries-back ends S in
@@ -175,4 +176,4 @@ module _ {ends residual₀ order trail : List ℕ} {target : ℕ} (s : Sendable 
       }
         where
           p : ℕ
-          p = at trail number
+          p = at s.trail number

@@ -21,8 +21,8 @@ use Rattle.flow.specs.Arcs.{arc_limit, tail, head, Laid, leaving, capacity, Bala
 use Rattle.flow.specs.Search.{positive, reached, reached_count, Tree, Shut, Stuck, Arrived, Ends, Searched}
 use Rattle.flow.specs.Flow.{Sendable, Sent, Rounded}
 use Rattle.flow.specs.declared.Pair.{Pair}
-use Rattle.flow.specs.declared.search.Found.{Found}
-use Rattle.flow.specs.declared.search.Found.TheVariants.{Sink, Nothing}
+use Rattle.flow.specs.declared.search.Search.{Search}
+use Rattle.std.proofs.Common.{Option, Some, None}
 use Rattle.flow.proofs.Laying.{ones, balanced-ones, capacity-ones}
 use Rattle.flow.proofs.Reaching.{positive-yes}
 
@@ -106,12 +106,9 @@ module _ {none : List ℕ} {sources : Pair} (b : Blank none sources) where
       let one = ap (λ n. bit (positive n)) sown-second in
       omega (arith, term-le vertex_limit (λ v. bit (reached (sown none sources) v)) sources.second b.second_vertex)
 
-  pub sown-tree : (ends residual trail : List ℕ) → length ends ≡ arc_limit → length residual ≡ arc_limit
-      → length trail ≡ vertex_limit + 1
-      → Tree ends residual (sown none sources) trail 1
-  sown-tree ends residual trail le lr lt = record {
-    long_ends = le;
-    long_residual = lr;
+  pub sown-tree : (ends residual trail : List ℕ) → length trail ≡ vertex_limit + 1
+      → Tree ends residual (record { order = sown none sources; trail = trail; clock = 1 })
+  sown-tree ends residual trail lt = record {
     long_order = simp length-set b.long;
     long_trail = lt;
     begun = omega arith;
@@ -126,24 +123,23 @@ module _ {none : List ℕ} {sources : Pair} (b : Blank none sources) where
   sown-in S first second v h =
       ⊎_elim (⊎_elim (λ e. ap S e ∙ first) (λ e. ap S e ∙ second)) (λ e. absurd (omega arith)) (sown-cases v)
 
-  module _ {ends residual order' trail' : List ℕ} {sinks : Pair} {found : Found}
-      (s : Searched ends residual sinks (sown none sources) order' trail' found) where
-    arrived : {v : ℕ} → found ≡ Sink v → Arrived sinks order' v
+  module _ {ends residual trail : List ℕ} {sinks : Pair} {found : Option ℕ} {s' : Search}
+      (s : Searched ends residual sinks (record { order = sown none sources; trail = trail; clock = 1 }) s' found) where
+    arrived : {v : ℕ} → found ≡ Some v → Arrived sinks s'.order v
     unfolding Ends
     arrived e = rw e at s.ending
 
-    pub sendable : {v : ℕ} → found ≡ Sink v → Balanced residual → Sendable ends residual order' trail' v
+    pub sendable : {v : ℕ} → found ≡ Some v → Balanced residual → Sendable ends residual s' v
     sendable e balanced =
         record {
           vertex = (arrived e).vertex;
           is_reached = (arrived e).is_reached;
           balanced = balanced;
-          back =
-              (_, s.grown.tree);
+          tree = s.grown.tree;
         }
 
     -- a sink was reached: a side between the terminals has the path's start in and its end out, and passes one less
-    pub round-sent : {v : ℕ} {residual' : List ℕ} → found ≡ Sink v → Sent ends order' v residual residual'
+    pub round-sent : {v : ℕ} {residual' : List ℕ} → found ≡ Some v → Sent ends s'.order v residual residual'
         → Rounded ends sources sinks residual residual' true
     round-sent {v} e sent = record {
       balanced = sent.balanced;
@@ -156,49 +152,46 @@ module _ {none : List ℕ} {sources : Pair} (b : Blank none sources) where
       full = λ q. never (sym q);
     }
 
-    stuck : found ≡ Nothing → Stuck ends residual sinks order'
+    stuck : found ≡ None → Stuck ends residual sinks s'.order
     unfolding Ends
     stuck e = rw e at s.ending
 
     -- no sink was reached: what is reached is a side between the terminals that can pass nothing
-    pub round-full : found ≡ Nothing → Balanced residual → Rounded ends sources sinks residual residual false
+    pub round-full : found ≡ None → Balanced residual → Rounded ends sources sinks residual residual false
     round-full e balanced = record {
       balanced = balanced;
       more = λ q. never q;
       full = λ _. (
-        reached order',
+        reached s'.order,
         record {
           first_in = positive-yes _ (s.grown.kept sources.first (omega (arith, sown-first)));
           second_in = positive-yes _ (s.grown.kept sources.second (omega (arith, sown-second)));
           first_out = ap positive (stuck e).first_missed;
           second_out = ap positive (stuck e).second_missed;
         },
-        shut-full ends residual order' (stuck e).shut,
+        shut-full ends residual s'.order (stuck e).shut,
       );
     }
 
 -- so many units were sent: what every side between the terminals
 -- could pass at the start is that much more than it can pass now
 pub record Level (ends : List ℕ) (sources sinks : Pair) (residual : List ℕ) (sent : ℕ) : Type 0 where
-  pub few : sent ≤ 4
   pub balanced : Balanced residual
   pub passed : (g : Network) → Laid g ends → (S : Side) → Between sources sinks S
       → capacity ends residual S + sent ≡ crossings g S
 
 pub level-none : (ends : List ℕ) (sources sinks : Pair) → Level ends sources sinks ones 0
 level-none ends sources sinks = record {
-  few = omega arith;
   balanced = balanced-ones;
   passed = λ g l S b. omega (arith, capacity-ones l S);
 }
 
 module _ {ends : List ℕ} {sources sinks : Pair} {residual : List ℕ} {sent : ℕ}
     (level : Level ends sources sinks residual sent) where
-  pub level-on : {residual' : List ℕ} {more : Bool} → sent < 4 → more ≡ true
+  pub level-on : {residual' : List ℕ} {more : Bool} → more ≡ true
       → Rounded ends sources sinks residual residual' more
       → Level ends sources sinks residual' (sent + 1)
-  level-on lt e r = record {
-    few = omega arith;
+  level-on e r = record {
     balanced = r.balanced;
     passed = λ g l S b. omega (arith, level.passed g l S b, r.more e S b);
   }

@@ -1,5 +1,4 @@
 -- Laws of searches that visit the vertices in the order in which they are reached.
-use mathlib.Core.Bool.{Bool, true, false}
 use mathlib.Core.List.{List}
 use mathlib.Core.Logic.{◌⊎◌, inl, inr, ⊎_elim}
 use mathlib.Core.Path.{◌≡◌, sym, ◌∙◌, ap}
@@ -8,43 +7,53 @@ use native.Mathlib.Decide.{ℕ_discrete, dec_lt}
 use native.Mathlib.Omega.{arith}
 use Rattle.base.specs.Columns.{at}
 use Rattle.base.specs.Limits.{vertex_limit}
-use Rattle.ports.specs.Ports.{port_limit, vertex_of, far_vertex}
-use Rattle.flow.specs.Reach.{Grown, Apart, WentOn, Encounter}
+use Rattle.ports.specs.Ports.{port_limit, vertex_of, far_vertex, Mated}
+use Rattle.flow.specs.declared.reach.Reach.{Reach}
+use Rattle.flow.specs.Reach.{Tree, Grown, Apart, WentOn, Encounter}
 use Rattle.flow.specs.Meet.{Searching, Closed, Meeting, Parted}
 use Rattle.flow.proofs.Visiting.{clock-most, grown-none, grown-on, shut-later}
 
-module _ {mate residual order trail : List ℕ} {back : Bool} {first clock next : ℕ}
-    (s : Searching mate residual back first order trail clock next) where
+module _ {mate residual : List ℕ} {first next : ℕ} {found : Reach}
+    (s : Searching mate residual first found next) where
   -- the vertex that comes next is reached, by a port that is one
-  module _ (l : next ≤ clock) where
-    pub next-port : at trail next < port_limit
+  module _ (l : next ≤ found.clock) where
+    next-port : at found.trail next < port_limit
     next-port = elim (dec_lt 1 next) [
       | yes h ↦ (s.tree.named next h l).0
       | no h ↦ s.root-port next s.begun (omega arith)
     ]
 
-    pub next-reached : 1 ≤ at order (far_vertex mate (at trail next))
+    next-reached : 1 ≤ at found.order (far_vertex mate (at found.trail next))
     next-reached = elim (dec_lt 1 next) [
       | yes h ↦ omega (arith, (s.tree.named next h l).1)
       | no h ↦ omega (arith, s.root-reached next s.begun (omega arith))
     ]
 
-    pub next-vertex : far_vertex mate (at trail next) < vertex_limit
-    next-vertex = omega (arith, s.tree.mated.below (at trail next) next-port)
+    next-vertex : far_vertex mate (at found.trail next) < vertex_limit
+    next-vertex = omega (arith, s.tree.mated.below (at found.trail next) next-port)
 
     pub number-most : next ≤ vertex_limit
     number-most = omega (arith, clock-most s.tree)
 
+    -- its number can be looked up, and it can be visited
+    pub listed : Mated mate × (next ≤ vertex_limit) × (at found.trail next < port_limit)
+    listed = (s.tree.mated, number-most, next-port)
+
+    pub visitable : {vertex : ℕ} (other : List ℕ) → vertex ≡ far_vertex mate (at found.trail next)
+        → Apart found.order other
+        → (vertex < vertex_limit) × (1 ≤ at found.order vertex) × Apart found.order other × Tree mate residual found
+    visitable other is apart = (rw is next-vertex, rw is next-reached, apart, s.tree)
+
     -- it is visited, and the search goes on
-    module _ {other order' trail' : List ℕ} {vertex clock' : ℕ} (vertex-is : vertex ≡ far_vertex mate (at trail next))
-        (w : WentOn mate residual back (λ p. vertex_of p ≡ vertex) order trail clock other order' trail' clock') where
-      same-port : (k : ℕ) → k ≤ clock → far_vertex mate (at trail' k) ≡ far_vertex mate (at trail k)
+    module _ {other : List ℕ} {vertex : ℕ} {found' : Reach} (vertex-is : vertex ≡ far_vertex mate (at found.trail next))
+        (w : WentOn mate residual (λ p. vertex_of p ≡ vertex) found other found') where
+      same-port : (k : ℕ) → k ≤ found.clock → far_vertex mate (at found'.trail k) ≡ far_vertex mate (at found.trail k)
       same-port k h = ap (far_vertex mate) (w.grown.stays k h)
 
-      low : (k : ℕ) → k ≤ 1 → k ≤ clock
+      low : (k : ℕ) → k ≤ 1 → k ≤ found.clock
       low k h = omega (arith, s.tree.begun)
 
-      pub searching-on : Searching mate residual back first order' trail' clock' (next + 1)
+      pub searching-on : Searching mate residual first found' (next + 1)
       searching-on = record {
         tree = w.grown.tree;
         first-low = s.first-low;
@@ -59,40 +68,39 @@ module _ {mate residual order trail : List ℕ} {back : Bool} {first clock next 
         visited = λ k f h p pl e. elim (ℕ_discrete k next) [
           | yes q ↦
               w.shut p pl
-              (e ∙ same-port k (omega arith) ∙ ap (λ i. far_vertex mate (at trail i)) q ∙ sym vertex-is)
+              (e ∙ same-port k (omega arith) ∙ ap (λ i. far_vertex mate (at found.trail i)) q ∙ sym vertex-is)
           | no q ↦ shut-later w.grown p (s.visited k f (omega arith) p pl (e ∙ same-port k (omega arith)))
         ];
       }
 
   -- all numbers have been visited, so that no port leads on
-  pub search-closed : clock < next → Closed mate residual back order
-  search-closed l p pl reached = elim (dec_lt 1 (at order (vertex_of p))) [
+  pub search-closed : found.clock < next → Closed mate residual found
+  search-closed l p pl reached = elim (dec_lt 1 (at found.order (vertex_of p))) [
     | yes h ↦
         let link = s.tree.link (vertex_of p) h in
-        s.visited (at order (vertex_of p)) (omega (arith, s.first-low)) (omega (arith, s.tree.numbered (vertex_of p))) p pl
-        (sym link.arrives)
+        s.visited (at found.order (vertex_of p)) (omega (arith, s.first-low))
+        (omega (arith, s.tree.numbered (vertex_of p))) p pl (sym link.arrives)
     | no h ↦
         let r = s.root-found (vertex_of p) (omega arith) in
         s.visited r.0 r.1 (omega (arith, r.2, s.tree.begun)) p pl (sym r.3)
   ]
 
-pub other-apart : {mate residual order trail other order' trail' : List ℕ} {back : Bool} {Tried : ℕ → Type 0} {clock clock' : ℕ}
-    → WentOn mate residual back Tried order trail clock other order' trail' clock' → Apart other order'
+pub other-apart : {mate residual other : List ℕ} {Tried : ℕ → Type 0} {found found' : Reach}
+    → WentOn mate residual Tried found other found' → Apart other found'.order
 other-apart w v = ⊎_elim inr inl (w.apart v)
 
 -- ── two searches in turn ──
-pub record Turns (mate residual order₀ trail₀ back₀ back-trail₀ order trail back back-trail : List ℕ)
-    (clock back-clock next : ℕ) : Type 0 where
-  pub forward : Searching mate residual false 0 order trail clock next
-  pub backward : Searching mate residual true 0 back back-trail back-clock next
-  pub grown : Grown mate residual false order₀ trail₀ 1 order trail clock
-  pub grown_back : Grown mate residual true back₀ back-trail₀ 1 back back-trail back-clock
-  pub apart : Apart order back
+pub record Turns (mate residual : List ℕ) (forth₀ back₀ forth back : Reach)
+    (next : ℕ) : Type 0 where
+  pub forward : Searching mate residual 0 forth next
+  pub backward : Searching mate residual 0 back next
+  pub grown : Grown mate residual forth₀ forth
+  pub grown_back : Grown mate residual back₀ back
+  pub apart : Apart forth.order back.order
 
-module _ {mate residual order₀ trail₀ back₀ back-trail₀ : List ℕ} where
-  pub turns-begun : Searching mate residual false 0 order₀ trail₀ 1 0 → Searching mate residual true 0 back₀ back-trail₀ 1 0
-      → Apart order₀ back₀
-      → Turns mate residual order₀ trail₀ back₀ back-trail₀ order₀ trail₀ back₀ back-trail₀ 1 1 0
+module _ {mate residual : List ℕ} {forth₀ back₀ : Reach} where
+  pub turns-begun : Searching mate residual 0 forth₀ 0 → Searching mate residual 0 back₀ 0
+      → Apart forth₀.order back₀.order → Turns mate residual forth₀ back₀ forth₀ back₀ 0
   turns-begun s b apart = record {
     forward = s;
     backward = b;
@@ -101,25 +109,14 @@ module _ {mate residual order₀ trail₀ back₀ back-trail₀ : List ℕ} wher
     apart = apart;
   }
 
-  module _ {order trail back back-trail : List ℕ} {clock back-clock next : ℕ}
-      (t : Turns mate residual order₀ trail₀ back₀ back-trail₀ order trail back back-trail clock back-clock next) where
-    pub parted : Closed mate residual false order ⊎ Closed mate residual true back
-        → Parted mate residual order₀ trail₀ back₀ back-trail₀ order trail back back-trail
-    parted closed = record {
-      last = _;
-      last_back = _;
-      grown = t.grown;
-      grown_back = t.grown_back;
-      apart = t.apart;
-      closed = closed;
-    }
+  module _ {forth back : Reach} {next : ℕ} (t : Turns mate residual forth₀ back₀ forth back next) where
+    pub parted : Closed mate residual forth ⊎ Closed mate residual back
+        → Parted mate residual forth₀ back₀ forth back
+    parted closed = record { grown = t.grown; grown_back = t.grown_back; apart = t.apart; closed = closed }
 
-    pub met-forward : {order' trail' : List ℕ} {m : ℕ}
-        → Encounter mate residual false order trail clock back order' trail' m
-        → Meeting mate residual order₀ trail₀ back₀ back-trail₀ order' trail' back back-trail m
+    pub met-forward : {forth' : Reach} {m : ℕ} → Encounter mate residual forth back.order forth' m
+        → Meeting mate residual forth₀ back₀ forth' back m
     met-forward e = record {
-      last = _;
-      last_back = _;
       grown = grown-on t.grown e.grown;
       grown_back = t.grown_back;
       vertex = e.vertex;
@@ -129,15 +126,12 @@ module _ {mate residual order₀ trail₀ back₀ back-trail₀ : List ℕ} wher
     }
 
     -- the first has gone on, and it is the second's turn
-    module _ {order' trail' : List ℕ} {vertex clock' : ℕ} (l : next ≤ clock)
-        (vertex-is : vertex ≡ far_vertex mate (at trail next))
-        (w : WentOn mate residual false (λ p. vertex_of p ≡ vertex) order trail clock back order' trail' clock') where
-      pub met-backward : {back' back-trail' : List ℕ} {m : ℕ}
-          → Encounter mate residual true back back-trail back-clock order' back' back-trail' m
-          → Meeting mate residual order₀ trail₀ back₀ back-trail₀ order' trail' back' back-trail' m
+    module _ {forth' : Reach} {vertex : ℕ} (l : next ≤ forth.clock)
+        (vertex-is : vertex ≡ far_vertex mate (at forth.trail next))
+        (w : WentOn mate residual (λ p. vertex_of p ≡ vertex) forth back.order forth') where
+      pub met-backward : {back' : Reach} {m : ℕ} → Encounter mate residual back forth'.order back' m
+          → Meeting mate residual forth₀ back₀ forth' back' m
       met-backward e = record {
-        last = _;
-        last_back = _;
         grown = grown-on t.grown w.grown;
         grown_back = grown-on t.grown_back e.grown;
         vertex = e.vertex;
@@ -146,11 +140,10 @@ module _ {mate residual order₀ trail₀ back₀ back-trail₀ : List ℕ} wher
         only = λ v ne. ⊎_elim inr inl (e.only v ne);
       }
 
-      pub turned : {back' back-trail' : List ℕ} {back-vertex back-clock' : ℕ} → next ≤ back-clock
-          → back-vertex ≡ far_vertex mate (at back-trail next)
-          → WentOn mate residual true (λ p. vertex_of p ≡ back-vertex) back back-trail back-clock order' back' back-trail'
-          back-clock'
-          → Turns mate residual order₀ trail₀ back₀ back-trail₀ order' trail' back' back-trail' clock' back-clock' (next + 1)
+      pub turned : {back' : Reach} {back-vertex : ℕ} → next ≤ back.clock
+          → back-vertex ≡ far_vertex mate (at back.trail next)
+          → WentOn mate residual (λ p. vertex_of p ≡ back-vertex) back forth'.order back'
+          → Turns mate residual forth₀ back₀ forth' back' (next + 1)
       turned h is b = record {
         forward = searching-on t.forward l vertex-is w;
         backward = searching-on t.backward h is b;

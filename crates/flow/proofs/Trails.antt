@@ -15,6 +15,7 @@ use Rattle.base.proofs.Sums.{sum-change}
 use Rattle.graph.specs.Cut.{Side}
 use Rattle.ports.specs.Ports.{port_limit, vertex_of, far_vertex, Mated}
 use Rattle.flow.specs.Capacity.{leaving, carried, capacity, Balanced, pushed}
+use Rattle.flow.specs.declared.reach.Reach.{Reach}
 use Rattle.flow.specs.Reach.{gate, Link, Tree}
 use Rattle.flow.specs.Sending.{Passed, Went, Sendable, Sent}
 use Rattle.flow.proofs.Visiting.{gate-below, clock-most}
@@ -148,30 +149,31 @@ gate-one m false pl ql e = e
 gate-one {mate} m true pl ql e = sym (m.back _ pl) ∙ ap (at mate) e ∙ m.back _ ql
 
 -- the unit has still to come to the vertex of this number
-pub record Partway (mate : List ℕ) (back : Bool) (order trail : List ℕ) (target : ℕ) (residual₀ residual : List ℕ)
+pub record Partway (mate : List ℕ) (found : Reach) (target : ℕ) (residual₀ residual : List ℕ)
     (number : ℕ) : Type 0 where
   pub vertex : ℕ
-  pub numbered : at order vertex ≡ number
+  pub numbered : at found.order vertex ≡ number
   pub some : 1 ≤ number
   pub balanced : Balanced mate residual
-  pub ahead : (w : ℕ) → 2 ≤ at order w → at order w ≤ number → 1 ≤ at residual (gate mate back (at trail (at order w)))
-  pub went : Went mate back residual₀ residual vertex target
+  pub ahead : (w : ℕ) → 2 ≤ at found.order w → at found.order w ≤ number
+      → 1 ≤ at residual (gate mate found.back (at found.trail (at found.order w)))
+  pub went : Went mate found.back residual₀ residual vertex target
   pub only : (p : ℕ) → p < port_limit → at residual p < at residual₀ p
-      → (1 ≤ at order (vertex_of p)) × (1 ≤ at order (far_vertex mate p))
+      → (1 ≤ at found.order (vertex_of p)) × (1 ≤ at found.order (far_vertex mate p))
 
-module _ {mate residual₀ order trail : List ℕ} {back : Bool} {target : ℕ}
-    (s : Sendable mate residual₀ back order trail target) where
-  t : Tree mate residual₀ back order trail s.clock
+module _ {mate residual₀ : List ℕ} {target : ℕ} {found : Reach}
+    (s : Sendable mate residual₀ found target) where
+  t : Tree mate residual₀ found
   t = s.tree
 
-  pub partway-none : Partway mate back order trail target residual₀ residual₀ (at order target)
+  pub partway-none : Partway mate found target residual₀ residual₀ (at found.order target)
   partway-none = record {
     vertex = target;
     numbered = refl;
     some = s.is_reached;
     balanced = t.balanced;
     ahead = λ w h _. (t.link w h).carries;
-    went = went-nothing back;
+    went = went-nothing found.back;
     only = λ p l h. absurd (omega arith);
   }
     where
@@ -179,12 +181,12 @@ module _ {mate residual₀ order trail : List ℕ} {back : Bool} {target : ℕ}
       went-nothing false = λ S. refl
       went-nothing true = λ S. refl
 
-  module _ {residual : List ℕ} {number : ℕ} (way : Partway mate back order trail target residual₀ residual number) where
+  module _ {residual : List ℕ} {number : ℕ} (way : Partway mate found target residual₀ residual number) where
     pub number-most : number ≤ vertex_limit
     number-most = omega (arith, t.numbered way.vertex, way.numbered, clock-most t)
 
     -- the unit has come to a root
-    pub partway-sent : number ≤ 1 → Sent mate back order target residual₀ residual
+    pub partway-sent : number ≤ 1 → Sent mate found target residual₀ residual
     partway-sent le = record {
       balanced = way.balanced;
       root = way.vertex;
@@ -195,13 +197,13 @@ module _ {mate residual₀ order trail : List ℕ} {back : Bool} {target : ℕ}
 
     module _ (more : 2 ≤ number) where
       abbrev p : ℕ
-      p = at trail number
+      p = at found.trail number
 
       -- the port by which the vertex was reached
-      pub link-back : Link mate residual₀ back order p way.vertex
+      pub link-back : Link mate residual₀ found.back found.order p way.vertex
       link-back = rw way.numbered at (t.link way.vertex (omega (arith, way.numbered)))
 
-      pub carries-back : 1 ≤ at residual (gate mate back p)
+      pub carries-back : 1 ≤ at residual (gate mate found.back p)
       carries-back = rw way.numbered at
           (way.ahead way.vertex (omega (arith, way.numbered)) (omega (arith, way.numbered)))
 
@@ -209,55 +211,58 @@ module _ {mate residual₀ order trail : List ℕ} {back : Bool} {target : ℕ}
       other-port : at mate p ≢ p
       other-port e =
           let same : vertex_of p ≡ way.vertex = ap vertex_of (sym e) ∙ link-back.arrives in
-          let a = ap (at order) same in
+          let a = ap (at found.order) same in
           omega (arith, link-back.earlier)
 
-      pub gate-port : gate mate back p < port_limit
-      gate-port = gate-below t.mated back p link-back.port
-
-      pub other-gate-port : gate mate (not back) p < port_limit
-      other-gate-port = gate-below t.mated (not back) p link-back.port
-
-      pub room_back : at residual (gate mate (not back) p) ≤ 1
-      room_back = sent-room t.mated way.balanced p link-back.port other-port back carries-back
+      -- a unit can go by its gate, and come in by the other one
+      pub pushable : (gate mate found.back p < port_limit) × (gate mate (not found.back) p < port_limit)
+          × (1 ≤ at residual (gate mate found.back p)) × (at residual (gate mate (not found.back) p) ≤ 1)
+      pushable = (
+        gate-below t.mated found.back p link-back.port,
+        gate-below t.mated (not found.back) p link-back.port,
+        carries-back,
+        sent-room t.mated way.balanced p link-back.port other-port found.back carries-back,
+      )
 
       -- no vertex before it was reached by the same port
-      another-port : (w : ℕ) → 2 ≤ at order w → at order w < number → at trail (at order w) ≢ p
+      another-port : (w : ℕ) → 2 ≤ at found.order w → at found.order w < number → at found.trail (at found.order w) ≢ p
       another-port w h l e =
-          let same : at order w ≡ at order way.vertex = cc ((t.link w h).arrives, link-back.arrives) in
+          let same : at found.order w ≡ at found.order way.vertex = cc ((t.link w h).arrives, link-back.arrives) in
           omega (arith, way.numbered)
 
-      another-gate : (w : ℕ) → 2 ≤ at order w → at order w < number
-          → gate mate back (at trail (at order w)) ≢ gate mate back p
-      another-gate w h l e = another-port w h l (gate-one t.mated back (t.link w h).port link-back.port e)
+      another-gate : (w : ℕ) → 2 ≤ at found.order w → at found.order w < number
+          → gate mate found.back (at found.trail (at found.order w)) ≢ gate mate found.back p
+      another-gate w h l e = another-port w h l (gate-one t.mated found.back (t.link w h).port link-back.port e)
 
       -- one port further back: the part of its vertex replaces that of the far one, so that what lies between cancels
-      pub partway-on : Partway mate back order trail target residual₀ (sent_by mate back residual p) (at order (vertex_of p))
+      pub partway-on : Partway mate found target residual₀ (sent_by mate found.back residual p)
+          (at found.order (vertex_of p))
       partway-on = record {
         vertex = vertex_of p;
         numbered = refl;
         some = link-back.from;
-        balanced = sent-balanced t.mated way.balanced p link-back.port other-port back carries-back;
+        balanced = sent-balanced t.mated way.balanced p link-back.port other-port found.back carries-back;
         ahead = λ w h le.
-            let l : at order w < number = omega (arith, way.numbered, link-back.earlier) in
-            let most = sent-most t.mated way.balanced p link-back.port other-port back _ (another-gate w h l) in
+            let l : at found.order w < number = omega (arith, way.numbered, link-back.earlier) in
+            let most = sent-most t.mated way.balanced p link-back.port other-port found.back _ (another-gate w h l) in
             omega (arith, way.ahead w h (omega arith));
         went =
-            went_on mate back residual₀ residual _ (vertex_of p) way.vertex target way.went
+            went_on mate found.back residual₀ residual _ (vertex_of p) way.vertex target way.went
             (rw link-back.arrives at
-            (sent-went t.mated way.balanced p link-back.port other-port back carries-back));
-        only = λ q l h. elim (ℕ_discrete q (gate mate back p)) [
-          | yes e ↦ rw e (gate-reached back)
+            (sent-went t.mated way.balanced p link-back.port other-port found.back carries-back));
+        only = λ q l h. elim (ℕ_discrete q (gate mate found.back p)) [
+          | yes e ↦ rw e (gate-reached found.back)
           | no ne ↦
-              (let most = sent-most t.mated way.balanced p link-back.port other-port back q ne in
+              (let most = sent-most t.mated way.balanced p link-back.port other-port found.back q ne in
               way.only q l (omega arith))
         ];
       }
         where
-          far-reached : 1 ≤ at order (far_vertex mate p)
+          far-reached : 1 ≤ at found.order (far_vertex mate p)
           far-reached = rw link-back.arrives (omega (arith, way.numbered))
 
           gate-reached : (back : Bool)
-              → (1 ≤ at order (vertex_of (gate mate back p))) × (1 ≤ at order (far_vertex mate (gate mate back p)))
+              → (1 ≤ at found.order (vertex_of (gate mate back p)))
+              × (1 ≤ at found.order (far_vertex mate (gate mate back p)))
           gate-reached false = (link-back.from, far-reached)
           gate-reached true = (far-reached, rw (t.mated.back p link-back.port) link-back.from)

@@ -14,9 +14,8 @@ use Rattle.base.specs.Limits.{vertex_limit}
 use Rattle.base.proofs.Bools.{bit-low}
 use Rattle.base.proofs.Sums.{sum_bound, sum-change}
 use Rattle.ports.specs.Ports.{port_limit, vertex_of, far_vertex, Mated}
-use Rattle.flow.specs.Reach.{positive, reached, reached_count, gate, Link, Tree, Grown, Shut, Apart, WentOn, Encounter, Comes}
-use Rattle.flow.specs.declared.reach.Visited.{Visited}
-use Rattle.flow.specs.declared.reach.Visited.TheVariants.{Met, On}
+use Rattle.flow.specs.declared.reach.Reach.{Reach}
+use Rattle.flow.specs.Reach.{positive, reached, reached_count, gate, Link, Tree, Grown, Shut, Apart, WentOn, Encounter}
 
 pub positive-yes : (n : ℕ) → 1 ≤ n → positive n ≡ true
 positive-yes zero h = absurd (omega arith)
@@ -46,49 +45,57 @@ count-more order w n long l new pos =
     omega arith
 
 -- no more numbers are given than there are vertices
-pub clock-most : {mate residual order trail : List ℕ} {back : Bool} {clock : ℕ} → Tree mate residual back order trail clock
-    → clock ≤ vertex_limit
-clock-most {order = order} t = omega (arith, t.counted, count_most order)
+pub clock-most : {mate residual : List ℕ} {s : Reach} → Tree mate residual s
+    → s.clock ≤ vertex_limit
+clock-most {s = s} t = omega (arith, t.counted, count_most s.order)
+
+-- what has been found once port p has led on: its far vertex has the next number
+abbrev pub led_on : List ℕ → Reach → ℕ → Reach
+led_on mate s p = record {
+  back = s.back;
+  order = set s.order (far_vertex mate p) (s.clock + 1);
+  trail = set s.trail (s.clock + 1) p;
+  clock = s.clock + 1;
+}
 
 -- port p leads on, from a vertex that is reached to one that is not
-pub record LeadsOn (mate residual : List ℕ) (back : Bool) (order trail : List ℕ) (clock p : ℕ) : Type 0 where
-  pub tree : Tree mate residual back order trail clock
+pub record LeadsOn (mate residual : List ℕ) (s : Reach) (p : ℕ) : Type 0 where
+  pub tree : Tree mate residual s
   pub port : p < port_limit
-  pub from : 1 ≤ at order (vertex_of p)
-  pub carries : 1 ≤ at residual (gate mate back p)
-  pub new : at order (far_vertex mate p) ≡ 0
+  pub from : 1 ≤ at s.order (vertex_of p)
+  pub carries : 1 ≤ at residual (gate mate s.back p)
+  pub new : at s.order (far_vertex mate p) ≡ 0
 
-module _ {mate residual order trail : List ℕ} {back : Bool} {clock p : ℕ}
-    (on : LeadsOn mate residual back order trail clock p) where
-  t : Tree mate residual back order trail clock
+module _ {mate residual : List ℕ} {s : Reach} {p : ℕ} (on : LeadsOn mate residual s p) where
+  t : Tree mate residual s
   t = on.tree
 
   pub far-below : far_vertex mate p < vertex_limit
   far-below = omega (arith, t.mated.below p on.port)
 
-  count-on : reached_count (set order (far_vertex mate p) (clock + 1)) ≡ reached_count order + 1
-  count-on = count-more order (far_vertex mate p) (clock + 1) t.long_order far-below on.new (omega arith)
+  count-on : reached_count (set s.order (far_vertex mate p) (s.clock + 1)) ≡ reached_count s.order + 1
+  count-on = count-more s.order (far_vertex mate p) (s.clock + 1) t.long_order far-below on.new (omega arith)
 
   -- there is a number left for it
-  pub number-left : clock < vertex_limit
-  number-left = omega (arith, t.counted, count-on, count_most (set order (far_vertex mate p) (clock + 1)))
+  pub number-left : s.clock < vertex_limit
+  number-left = omega (arith, t.counted, count-on, count_most (set s.order (far_vertex mate p) (s.clock + 1)))
 
-  at_new : at (set order (far_vertex mate p) (clock + 1)) (far_vertex mate p) ≡ clock + 1
-  at_new = get_or-set_same order (far_vertex mate p) (clock + 1) 0 (omega (arith, t.long_order, far-below))
+  at_new : at (set s.order (far_vertex mate p) (s.clock + 1)) (far_vertex mate p) ≡ s.clock + 1
+  at_new = get_or-set_same s.order (far_vertex mate p) (s.clock + 1) 0 (omega (arith, t.long_order, far-below))
 
-  at_other : (v : ℕ) → v ≢ far_vertex mate p → at (set order (far_vertex mate p) (clock + 1)) v ≡ at order v
-  at_other v ne = get_or-set_other order (far_vertex mate p) v (clock + 1) 0 ne
+  at_other : (v : ℕ) → v ≢ far_vertex mate p → at (set s.order (far_vertex mate p) (s.clock + 1)) v ≡ at s.order v
+  at_other v ne = get_or-set_other s.order (far_vertex mate p) v (s.clock + 1) 0 ne
 
-  at-reached : (v : ℕ) → 1 ≤ at order v → at (set order (far_vertex mate p) (clock + 1)) v ≡ at order v
-  at-reached v h = at_other v (λ e. let a = ap (at order) e in omega (arith, on.new))
+  at-reached : (v : ℕ) → 1 ≤ at s.order v → at (set s.order (far_vertex mate p) (s.clock + 1)) v ≡ at s.order v
+  at-reached v h = at_other v (λ e. let a = ap (at s.order) e in omega (arith, on.new))
 
-  trail-new : at (set trail (clock + 1) p) (clock + 1) ≡ p
-  trail-new = get_or-set_same trail (clock + 1) p 0 (omega (arith, number-left, t.long_trail))
+  trail-new : at (set s.trail (s.clock + 1) p) (s.clock + 1) ≡ p
+  trail-new = get_or-set_same s.trail (s.clock + 1) p 0 (omega (arith, number-left, t.long_trail))
 
-  trail-other : (k : ℕ) → k ≤ clock → at (set trail (clock + 1) p) k ≡ at trail k
-  trail-other k l = get_or-set_other trail (clock + 1) k p 0 (λ e. omega arith)
+  trail-other : (k : ℕ) → k ≤ s.clock → at (set s.trail (s.clock + 1) p) k ≡ at s.trail k
+  trail-other k l = get_or-set_other s.trail (s.clock + 1) k p 0 (λ e. omega arith)
 
-  new-link : Link mate residual back (set order (far_vertex mate p) (clock + 1)) p (far_vertex mate p)
+  new-link : Link mate residual s.back (set s.order (far_vertex mate p) (s.clock + 1)) p (far_vertex mate p)
   new-link = record {
     port = on.port;
     arrives = refl;
@@ -97,8 +104,8 @@ module _ {mate residual order trail : List ℕ} {back : Bool} {clock p : ℕ}
     carries = on.carries;
   }
 
-  old-link : (q v : ℕ) → Link mate residual back order q v
-      → Link mate residual back (set order (far_vertex mate p) (clock + 1)) q v
+  old-link : (q v : ℕ) → Link mate residual s.back s.order q v
+      → Link mate residual s.back (set s.order (far_vertex mate p) (s.clock + 1)) q v
   old-link q v l = record {
     port = l.port;
     arrives = l.arrives;
@@ -107,28 +114,27 @@ module _ {mate residual order trail : List ℕ} {back : Bool} {clock p : ℕ}
     carries = l.carries;
   }
 
-  link_on : (v : ℕ) → 2 ≤ at (set order (far_vertex mate p) (clock + 1)) v
-      → Link mate residual back (set order (far_vertex mate p) (clock + 1))
-      (at (set trail (clock + 1) p) (at (set order (far_vertex mate p) (clock + 1)) v)) v
+  link_on : (v : ℕ) → 2 ≤ at (set s.order (far_vertex mate p) (s.clock + 1)) v
+      → Link mate residual s.back (set s.order (far_vertex mate p) (s.clock + 1))
+      (at (set s.trail (s.clock + 1) p) (at (set s.order (far_vertex mate p) (s.clock + 1)) v)) v
   link_on v h = elim (ℕ_discrete v (far_vertex mate p)) [
     | yes e ↦ rw (e, at_new, trail-new) new-link
     | no ne ↦
         (let a = at_other v ne in
-        rw (a, trail-other (at order v) (t.numbered v)) (old-link _ v (t.link v (omega arith))))
+        rw (a, trail-other (at s.order v) (t.numbered v)) (old-link _ v (t.link v (omega arith))))
   ]
 
-  named-on : (k : ℕ) → 2 ≤ k → k ≤ clock + 1 → (at (set trail (clock + 1) p) k < port_limit) ×
-      (at (set order (far_vertex mate p) (clock + 1)) (far_vertex mate (at (set trail (clock + 1) p) k)) ≡ k)
-  named-on k l h = elim (ℕ_discrete k (clock + 1)) [
+  named-on : (k : ℕ) → 2 ≤ k → k ≤ s.clock + 1 → (at (set s.trail (s.clock + 1) p) k < port_limit) ×
+      (at (set s.order (far_vertex mate p) (s.clock + 1)) (far_vertex mate (at (set s.trail (s.clock + 1) p) k)) ≡ k)
+  named-on k l h = elim (ℕ_discrete k (s.clock + 1)) [
     | yes e ↦ rw (e, trail-new) (on.port, at_new)
     | no ne ↦
         (let before = t.named k l (omega arith) in
         rw (trail-other k (omega arith))
-        (before.0, at-reached (far_vertex mate (at trail k)) (omega (arith, before.1)) ∙ before.1))
+        (before.0, at-reached (far_vertex mate (at s.trail k)) (omega (arith, before.1)) ∙ before.1))
   ]
 
-  pub leads-on : Grown mate residual back order trail clock (set order (far_vertex mate p) (clock + 1))
-      (set trail (clock + 1) p) (clock + 1)
+  pub leads-on : Grown mate residual s (led_on mate s p)
   leads-on = record {
     tree = record {
       mated = t.mated;
@@ -142,21 +148,21 @@ module _ {mate residual order trail : List ℕ} {back : Bool} {clock p : ℕ}
       named = named-on;
       link = link_on;
     };
+    way = refl;
     rises = omega arith;
     kept = at-reached;
     root = λ v h. elim (ℕ_discrete v (far_vertex mate p)) [
       | yes e ↦
-          (let a = ap (at (set order (far_vertex mate p) (clock + 1))) e in absurd (omega (arith, at_new, t.begun)))
+          (let a = ap (at (set s.order (far_vertex mate p) (s.clock + 1))) e in absurd (omega (arith, at_new, t.begun)))
       | no ne ↦ omega (arith, at_other v ne)
     ];
     stays = trail-other;
   }
 
   -- what it comes to: another search has not reached the far vertex, or it has
-  module _ (other : List ℕ) (apart : Apart order other) where
+  module _ (other : List ℕ) (apart : Apart s.order other) where
     pub went_on : at other (far_vertex mate p) ≡ 0
-        → WentOn mate residual back (λ q. q ≡ p) order trail clock other
-        (set order (far_vertex mate p) (clock + 1)) (set trail (clock + 1) p) (clock + 1)
+        → WentOn mate residual (λ q. q ≡ p) s other (led_on mate s p)
     went_on h = record {
       grown = leads-on;
       shut = λ q l e. rw e (λ _. omega (arith, at_new));
@@ -167,10 +173,8 @@ module _ {mate residual order trail : List ℕ} {back : Bool} {clock p : ℕ}
     }
 
     pub met : 1 ≤ at other (far_vertex mate p)
-        → Encounter mate residual back order trail clock other
-        (set order (far_vertex mate p) (clock + 1)) (set trail (clock + 1) p) (far_vertex mate p)
+        → Encounter mate residual s other (led_on mate s p) (far_vertex mate p)
     met h = record {
-      last = clock + 1;
       grown = leads-on;
       vertex = far-below;
       reaches = omega (arith, at_new);
@@ -179,21 +183,22 @@ module _ {mate residual order trail : List ℕ} {back : Bool} {clock p : ℕ}
     }
 
 -- ── one growth after another ──
-module _ {mate residual : List ℕ} {back : Bool} where
-  pub grown-none : {order trail : List ℕ} {clock : ℕ} → Tree mate residual back order trail clock
-      → Grown mate residual back order trail clock order trail clock
+module _ {mate residual : List ℕ} where
+  pub grown-none : {s : Reach} → Tree mate residual s → Grown mate residual s s
   grown-none t = record {
     tree = t;
+    way = refl;
     rises = omega arith;
     kept = λ v h. refl;
     root = λ v h. h;
     stays = λ k l. refl;
   }
 
-  pub grown-on : {o s o' s' o'' s'' : List ℕ} {i j k : ℕ} → Grown mate residual back o s i o' s' j
-      → Grown mate residual back o' s' j o'' s'' k → Grown mate residual back o s i o'' s'' k
+  pub grown-on : {s s' s'' : Reach} → Grown mate residual s s' → Grown mate residual s' s''
+      → Grown mate residual s s''
   grown-on g h = record {
     tree = h.tree;
+    way = h.way ∙ g.way;
     rises = omega (arith, g.rises, h.rises);
     kept = λ v r. h.kept v (omega (arith, g.kept v r)) ∙ g.kept v r;
     root = λ v r. g.root v (h.root v r);
@@ -201,49 +206,32 @@ module _ {mate residual : List ℕ} {back : Bool} where
   }
 
   -- what is shut stays so
-  pub shut-later : {o s o' s' : List ℕ} {i j : ℕ} → Grown mate residual back o s i o' s' j → (p : ℕ)
-      → Shut mate residual back o p → Shut mate residual back o' p
-  shut-later g p shut c = let far = shut c in omega (arith, g.kept (far_vertex mate p) far)
+  pub shut-later : {s s' : Reach} → Grown mate residual s s' → (p : ℕ) → Shut mate residual s p
+      → Shut mate residual s' p
+  shut-later g p shut c = let far = shut (rw g.way at c) in omega (arith, g.kept (far_vertex mate p) far)
 
   module _ {other : List ℕ} where
     -- a port that leads to no new vertex, tried
-    pub went-nowhere : {o s : List ℕ} {i : ℕ} → Tree mate residual back o s i → Apart o other → (p : ℕ)
-        → Shut mate residual back o p → WentOn mate residual back (λ q. q ≡ p) o s i other o s i
+    pub went-nowhere : {s : Reach} → Tree mate residual s → Apart s.order other → (p : ℕ)
+        → Shut mate residual s p → WentOn mate residual (λ q. q ≡ p) s other s
     went-nowhere t apart p shut = record { grown = grown-none t; shut = λ q l e. rw e shut; apart = apart }
 
-    pub went-none : {Tried : ℕ → Type 0} {o s : List ℕ} {i : ℕ} → Tree mate residual back o s i → Apart o other
-        → ((p : ℕ) → Tried p → ⊥) → WentOn mate residual back Tried o s i other o s i
-    went-none t apart none = record { grown = grown-none t; shut = λ p l h. absurd (none p h); apart = apart }
-
     -- some ports tried, then others: of all that are one or the other
-    pub went-further : {Some More Both : ℕ → Type 0} {o s o' s' o'' s'' : List ℕ} {i j k : ℕ}
-        → WentOn mate residual back Some o s i other o' s' j → WentOn mate residual back More o' s' j other o'' s'' k
-        → ((p : ℕ) → Both p → Some p ⊎ More p) → WentOn mate residual back Both o s i other o'' s'' k
+    pub went-further : {Some More Both : ℕ → Type 0} {s s' s'' : Reach}
+        → WentOn mate residual Some s other s' → WentOn mate residual More s' other s''
+        → ((p : ℕ) → Both p → Some p ⊎ More p) → WentOn mate residual Both s other s''
     went-further a b which = record {
       grown = grown-on a.grown b.grown;
       shut = λ p l h. ⊎_elim (λ x. shut-later b.grown p (a.shut p l x)) (λ x. b.shut p l x) (which p h);
       apart = b.apart;
     }
 
-    pub met-further : {o s o' s' o'' s'' : List ℕ} {i j m : ℕ}
-        → Grown mate residual back o s i o' s' j → Encounter mate residual back o' s' j other o'' s'' m
-        → Encounter mate residual back o s i other o'' s'' m
+    pub met-further : {s s' s'' : Reach} {m : ℕ} → Grown mate residual s s'
+        → Encounter mate residual s' other s'' m → Encounter mate residual s other s'' m
     met-further a b = record {
-      last = b.last;
       grown = grown-on a b.grown;
       vertex = b.vertex;
       reaches = b.reaches;
       reached_before = b.reached_before;
       only = b.only;
     }
-
-    -- what trying ports came to, by its answer
-    pub comes-on : {Tried : ℕ → Type 0} {o s o' s' : List ℕ} {i k : ℕ} {r : Visited} → r ≡ On k
-        → Comes mate residual back Tried o s i other o' s' r → WentOn mate residual back Tried o s i other o' s' k
-    unfolding Comes
-    comes-on e h = rw e at h
-
-    pub comes-met : (Tried : ℕ → Type 0) {o s o' s' : List ℕ} {i m : ℕ} {r : Visited} → r ≡ Met m
-        → Comes mate residual back Tried o s i other o' s' r → Encounter mate residual back o s i other o' s' m
-    unfolding Comes
-    comes-met Tried e h = rw e at h

@@ -6,19 +6,20 @@ use Rattle.base.specs.Limits.{vertex_limit}
 use Rattle.flow.specs.Apart.{Between}
 use Rattle.base.specs.Columns.{at}
 use Rattle.flow.specs.Arcs.{reverse, capacity, Balanced}
-use Rattle.flow.specs.Search.{Trail}
+use Rattle.flow.specs.Search.{Tree}
 use Rattle.flow.specs.declared.Pair.{Pair}
+use Rattle.flow.specs.declared.search.Search.{Search}
 
 -- the capacities once a unit has gone along arc p: it can carry one less, and its reverse one more
 unfoldable pub pushed : List ℕ → ℕ → List ℕ
 pushed residual p = set (set residual p (at residual p - 1)) (reverse p) (at residual (reverse p) + 1)
 
 -- a unit can be sent to v: it is reached, and the trail leads back from it
-pub record Sendable (ends residual order trail : List ℕ) (v : ℕ) : Type 0 where
+pub record Sendable (ends residual : List ℕ) (s : Search) (v : ℕ) : Type 0 where
   pub vertex : v < vertex_limit
-  pub is_reached : 1 ≤ at order v
+  pub is_reached : 1 ≤ at s.order v
   pub balanced : Balanced residual
-  pub back : Trail ends residual order trail
+  pub tree : Tree ends residual s
 
 -- a unit was sent from a source to v: a side with the sources in can pass one unit less, unless v is in too
 pub record Sent (ends order : List ℕ) (v : ℕ) (residual residual' : List ℕ) : Type 0 where

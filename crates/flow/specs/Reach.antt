@@ -9,8 +9,9 @@ use Rattle.base.specs.Limits.{vertex_limit}
 use Rattle.graph.specs.Cut.{Side}
 use Rattle.ports.specs.Ports.{port_limit, vertex_of, far_vertex, Mated}
 use Rattle.flow.specs.Capacity.{Balanced}
-use Rattle.flow.specs.declared.reach.Visited.{Visited}
-use Rattle.flow.specs.declared.reach.Visited.TheVariants.{Met, On}
+use Rattle.flow.specs.declared.reach.Reach.{Reach}
+use Rattle.std.specs.declared.ops.ControlFlow.{ControlFlow}
+use Rattle.std.specs.declared.ops.ControlFlow.TheVariants.{Continue, Break}
 
 abbrev pub positive : ℕ → Bool
 positive zero = false
@@ -38,55 +39,53 @@ pub record Link (mate residual : List ℕ) (back : Bool) (order : List ℕ) (p v
 
 -- what a search has found so far: `clock` is the last number given, and the trail leads back to a root from every vertex
 -- that is reached
-pub record Tree (mate residual : List ℕ) (back : Bool) (order trail : List ℕ) (clock : ℕ) : Type 0 where
+pub record Tree (mate residual : List ℕ) (s : Reach) : Type 0 where
   pub mated : Mated mate
   pub balanced : Balanced mate residual
-  pub long_order : length order ≡ vertex_limit
-  pub long_trail : length trail ≡ vertex_limit + 1
-  pub begun : 1 ≤ clock
-  pub counted : clock ≤ reached_count order
-  pub numbered : (v : ℕ) → at order v ≤ clock
-  pub named : (k : ℕ) → 2 ≤ k → k ≤ clock → (at trail k < port_limit) × (at order (far_vertex mate (at trail k)) ≡ k)
-  pub link : (v : ℕ) → 2 ≤ at order v → Link mate residual back order (at trail (at order v)) v
+  pub long_order : length s.order ≡ vertex_limit
+  pub long_trail : length s.trail ≡ vertex_limit + 1
+  pub begun : 1 ≤ s.clock
+  pub counted : s.clock ≤ reached_count s.order
+  pub numbered : (v : ℕ) → at s.order v ≤ s.clock
+  pub named : (k : ℕ) → 2 ≤ k → k ≤ s.clock
+      → (at s.trail k < port_limit) × (at s.order (far_vertex mate (at s.trail k)) ≡ k)
+  pub link : (v : ℕ) → 2 ≤ at s.order v → Link mate residual s.back s.order (at s.trail (at s.order v)) v
 
--- a search goes on: numbers that were given stay, and no root is added
-pub record Grown (mate residual : List ℕ) (back : Bool) (order trail : List ℕ) (clock : ℕ) (order' trail' : List ℕ)
-    (clock' : ℕ) : Type 0 where
-  pub tree : Tree mate residual back order' trail' clock'
-  pub rises : clock ≤ clock'
-  pub kept : (v : ℕ) → 1 ≤ at order v → at order' v ≡ at order v
-  pub root : (v : ℕ) → at order' v ≡ 1 → at order v ≡ 1
-  pub stays : (k : ℕ) → k ≤ clock → at trail' k ≡ at trail k
+-- a search goes on, the same way: numbers that were given stay, and no root is added
+pub record Grown (mate residual : List ℕ) (s s' : Reach) : Type 0 where
+  pub tree : Tree mate residual s'
+  pub way : s'.back ≡ s.back
+  pub rises : s.clock ≤ s'.clock
+  pub kept : (v : ℕ) → 1 ≤ at s.order v → at s'.order v ≡ at s.order v
+  pub root : (v : ℕ) → at s'.order v ≡ 1 → at s.order v ≡ 1
+  pub stays : (k : ℕ) → k ≤ s.clock → at s'.trail k ≡ at s.trail k
 
 -- port p leads to no vertex that is not reached
-abbrev pub Shut : List ℕ → List ℕ → Bool → List ℕ → ℕ → Type 0
-Shut mate residual back order p = 1 ≤ at residual (gate mate back p) → 1 ≤ at order (far_vertex mate p)
+abbrev pub Shut : List ℕ → List ℕ → Reach → ℕ → Type 0
+Shut mate residual s p = 1 ≤ at residual (gate mate s.back p) → 1 ≤ at s.order (far_vertex mate p)
 
 -- no vertex is reached by two searches
 abbrev pub Apart : List ℕ → List ℕ → Type 0
 Apart order other = (v : ℕ) → (at order v ≡ 0) ⊎ (at other v ≡ 0)
 
 -- ports were tried, those of which `Tried` holds, and no vertex was reached that another search has reached
-pub record WentOn (mate residual : List ℕ) (back : Bool) (Tried : ℕ → Type 0) (order trail : List ℕ) (clock : ℕ)
-    (other order' trail' : List ℕ) (clock' : ℕ) : Type 0 where
-  pub grown : Grown mate residual back order trail clock order' trail' clock'
-  pub shut : (p : ℕ) → p < port_limit → Tried p → Shut mate residual back order' p
-  pub apart : Apart order' other
+pub record WentOn (mate residual : List ℕ) (Tried : ℕ → Type 0) (s : Reach) (other : List ℕ)
+    (s' : Reach) : Type 0 where
+  pub grown : Grown mate residual s s'
+  pub shut : (p : ℕ) → p < port_limit → Tried p → Shut mate residual s' p
+  pub apart : Apart s'.order other
 
 -- a vertex was reached that another search has reached, and no other such
-pub record Encounter (mate residual : List ℕ) (back : Bool) (order trail : List ℕ) (clock : ℕ)
-    (other order' trail' : List ℕ) (m : ℕ) : Type 0 where
-  pub last : ℕ
-  pub grown : Grown mate residual back order trail clock order' trail' last
+pub record Encounter (mate residual : List ℕ) (s : Reach) (other : List ℕ) (s' : Reach)
+    (m : ℕ) : Type 0 where
+  pub grown : Grown mate residual s s'
   pub vertex : m < vertex_limit
-  pub reaches : 1 ≤ at order' m
+  pub reaches : 1 ≤ at s'.order m
   pub reached_before : 1 ≤ at other m
-  pub only : (v : ℕ) → v ≢ m → (at order' v ≡ 0) ⊎ (at other v ≡ 0)
+  pub only : (v : ℕ) → v ≢ m → (at s'.order v ≡ 0) ⊎ (at other v ≡ 0)
 
--- what trying ports comes to
-unfoldable pub Comes : List ℕ → List ℕ → Bool → (ℕ → Type 0) → List ℕ → List ℕ → ℕ → List ℕ → List ℕ → List ℕ
-    → Visited → Type 0
-Comes mate residual back Tried order trail clock other order' trail' (On clock') =
-    WentOn mate residual back Tried order trail clock other order' trail' clock'
-Comes mate residual back Tried order trail clock other order' trail' (Met m) =
-    Encounter mate residual back order trail clock other order' trail' m
+-- what trying ports comes to: it goes on, or breaks off where searches meet
+unfoldable pub Comes : List ℕ → List ℕ → (ℕ → Type 0) → Reach → List ℕ → Reach
+    → ControlFlow ℕ (Unit {0}) → Type 0
+Comes mate residual Tried s other s' (Continue _) = WentOn mate residual Tried s other s'
+Comes mate residual Tried s other s' (Break m) = Encounter mate residual s other s' m

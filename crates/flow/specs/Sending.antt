@@ -8,6 +8,7 @@ use Rattle.ports.specs.Ports.{port_limit, vertex_of, far_vertex}
 use Rattle.flow.specs.Capacity.{capacity, Balanced}
 use Rattle.flow.specs.Reach.{Tree}
 use Rattle.flow.specs.declared.Pair.{Pair}
+use Rattle.flow.specs.declared.reach.Reach.{Reach}
 
 -- a unit went from one vertex to another: a side can pass one unit less if it has the first in and the second out. This
 -- is said of all sides at once, so nothing need be said of conservation at a vertex
@@ -21,20 +22,19 @@ Went mate false residual residual' root v = Passed mate residual residual' root 
 Went mate true residual residual' root v = Passed mate residual residual' v root
 
 -- the trail leads back from vertex v
-pub record Sendable (mate residual : List ℕ) (back : Bool) (order trail : List ℕ) (v : ℕ) : Type 0 where
+pub record Sendable (mate residual : List ℕ) (s : Reach) (v : ℕ) : Type 0 where
   pub vertex : v < vertex_limit
-  pub is_reached : 1 ≤ at order v
-  pub clock : ℕ
-  pub tree : Tree mate residual back order trail clock
+  pub is_reached : 1 ≤ at s.order v
+  pub tree : Tree mate residual s
 
 -- a unit was sent between vertex v and a root, and only ports of vertices that are reached can carry less than before
-pub record Sent (mate : List ℕ) (back : Bool) (order : List ℕ) (v : ℕ) (residual residual' : List ℕ) : Type 0 where
+pub record Sent (mate : List ℕ) (s : Reach) (v : ℕ) (residual residual' : List ℕ) : Type 0 where
   pub balanced : Balanced mate residual'
   pub root : ℕ
-  pub is_root : at order root ≡ 1
-  pub went : Went mate back residual residual' root v
+  pub is_root : at s.order root ≡ 1
+  pub went : Went mate s.back residual residual' root v
   pub only : (p : ℕ) → p < port_limit → at residual' p < at residual p
-      → (1 ≤ at order (vertex_of p)) × (1 ≤ at order (far_vertex mate p))
+      → (1 ≤ at s.order (vertex_of p)) × (1 ≤ at s.order (far_vertex mate p))
 
 -- a side with both sources in and both sinks out
 pub record Between (sources sinks : Pair) (S : Side) : Type 0 where

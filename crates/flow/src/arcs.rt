@@ -1,6 +1,6 @@
 // The arcs of a network: where each starts, and which start at a vertex.
 ghost use Rattle.std.specs.Prelude.{length, ◌≡◌, ◌≤◌, ◌<◌};
-ghost use Rattle.base.specs.Limits.{vertex_limit, edge_limit};
+ghost use Rattle.base.specs.Limits.{edge_limit};
 ghost use Rattle.graph.specs.Sound.{Formed};
 ghost use Rattle.flow.specs.Arcs.{arc_limit, Laid, moved, MovedTo};
 ghost use Rattle.flow.specs.Ports.{wiring, plugged, wired};
@@ -18,21 +18,22 @@ pub fn lay(network: Network) -> [u8; ARC_LIMIT]
     requires { Formed network }
     ensures { Laid network result }
 {
-    let edges = network.edges;
     let mut ends = [0u8; ARC_LIMIT];
-    let mut edge = 0;
-    while edge < edges {
+    for edge in 0..network.edges {
         ends[edge] = network.low[edge];
         ends[edge + EDGE_LIMIT] = network.high[edge];
-        edge += 1;
     }
     ends
 }
 
 // Gives an arc the next port of the vertex where it starts, if one is left. A loop leads nowhere and gets none.
-fn plug(ends: &[u8], ports: &mut [u16], used: &mut [usize], arc: usize)
-    requires ends_len { (length ends.now ≡ arc_limit) × (arc < arc_limit) }
-    requires ports_len { (length ports.old ≡ arc_limit) × (length used.old ≡ vertex_limit) }
+fn plug(
+    ends: &[u8; ARC_LIMIT],
+    ports: &mut [u16; ARC_LIMIT],
+    used: &mut [usize; VERTEX_LIMIT],
+    arc: usize,
+)
+    requires { arc < arc_limit }
     ensures { wiring ports.new used.new ≡
         plugged ends.now (wiring ports.old used.old) arc }
 {
@@ -55,12 +56,11 @@ pub fn wire(ends: &[u8]) -> [u16; ARC_LIMIT]
     requires { length ends.now ≡ arc_limit }
     ensures { result ≡ (wired ends.now arc_limit).ports }
 {
+    let ends: &[u8; ARC_LIMIT] = ends.as_array().unwrap();
     let mut ports = [0u16; ARC_LIMIT];
     let mut used = [0usize; VERTEX_LIMIT];
-    let mut arc = 0;
-    while arc < ARC_LIMIT {
+    for arc in 0..ARC_LIMIT {
         plug(ends, &mut ports, &mut used, arc);
-        arc += 1;
     }
     ports
 }
@@ -77,10 +77,8 @@ pub fn gather(ends: &mut [u8], edges: usize, from: u8, to: u8)
     requires { (length ends.old ≡ arc_limit) × (edges ≤ edge_limit) }
     ensures { MovedTo from to edges ends.old ends.new }
 {
-    let mut edge = 0;
-    while edge < edges {
+    for edge in 0..edges {
         ends[edge] = moved_from(ends[edge], from, to);
         ends[edge + EDGE_LIMIT] = moved_from(ends[edge + EDGE_LIMIT], from, to);
-        edge += 1;
     }
 }

@@ -7,6 +7,7 @@ ghost use Rattle.flow.specs.Apart.{FourApart};
 
 use graph::Network;
 
+// `search` and `paths` go over arcs; `reach`, `meet`, `send` and `round` over ports, whose lists and clauses differ.
 mod arcs; // arcs.rt: the arcs of a network
 mod meet; // meet.rt: searches that meet
 mod reach; // reach.rt: reaching vertices over ports

@@ -1,96 +1,63 @@
 // Searching until a marked vertex is reached, or until two searches meet.
-ghost use Rattle.std.specs.Prelude.{true, false};
 ghost use Rattle.flow.specs.Meet.{Searching, Finds, Meets};
 ghost use Rattle.flow.specs.Reach.{Apart};
 
-use crate::reach::{Visited, numbered, visit};
+use crate::reach::Reach;
 use base::VERTEX_LIMIT;
 use ports::PORT_LIMIT;
-
-// What a search finds: the vertex that it looked for, if any.
-#[derive(Clone, Copy)]
-pub enum Found {
-    At(usize),
-    Nothing,
-}
+use std::ops::ControlFlow;
 
 // Visits the vertices as they are reached, from one root on, until a marked one is reached or no port leads on.
+// Returns the marked vertex, if one is reached.
 pub fn search_to(
     mate: &[u16; PORT_LIMIT],
     residual: &[u8; PORT_LIMIT],
-    order: &mut [u16; VERTEX_LIMIT],
-    trail: &mut [u16; VERTEX_LIMIT + 1],
+    search: &mut Reach,
     marks: &[u16; VERTEX_LIMIT],
-) -> Found
-    requires { Searching mate.now residual.now false 1 order.old trail.old 1 1 × Apart order.old marks.now }
-    ensures { Finds mate.now residual.now order.old trail.old 1
-        marks.now order.new trail.new result }
+) -> Option<usize>
+    requires { Searching mate.now residual.now 1 search.old 1 × Apart search.old.order marks.now }
+    ensures { Finds mate.now residual.now search.old marks.now search.new result }
 {
-    let mut clock = 1;
+    // The queue grows while it is read, so no range has its turns.
     let mut next = 1;
-    while next <= clock {
-        let vertex = numbered(mate, trail, next);
-        match visit(mate, residual, false, vertex, order, trail, marks, clock) {
-            Visited::Met(found) => {
-                return Found::At(found);
-            }
-            Visited::On(last) => {
-                clock = last;
-            }
+    while next <= search.clock {
+        let vertex = search.numbered(mate, next);
+        if let ControlFlow::Break(found) = search.visit(mate, residual, vertex, marks) {
+            return Some(found);
         }
         next += 1;
     }
-    Found::Nothing
+    None
 }
 
 // Two searches in turn, from two roots each, one the way that units go and one back, until they meet or one of them is
-// over.
+// over. Returns the vertex where they meet, if they do.
 pub fn search_between(
     mate: &[u16; PORT_LIMIT],
     residual: &[u8; PORT_LIMIT],
-    order: &mut [u16; VERTEX_LIMIT],
-    trail: &mut [u16; VERTEX_LIMIT + 1],
-    back_order: &mut [u16; VERTEX_LIMIT],
-    back_trail: &mut [u16; VERTEX_LIMIT + 1],
-) -> Found
-    requires { Searching mate.now residual.now false 0 order.old trail.old 1 0 ×
-        Searching mate.now residual.now true 0 back_order.old back_trail.old 1 0 ×
-        Apart order.old back_order.old }
-    ensures { Meets mate.now residual.now order.old trail.old
-        back_order.old back_trail.old order.new trail.new
-        back_order.new back_trail.new result }
+    search: &mut Reach,
+    back: &mut Reach,
+) -> Option<usize>
+    requires { Searching mate.now residual.now 0 search.old 0 × Searching mate.now residual.now 0 back.old 0 ×
+        Apart search.old.order back.old.order }
+    ensures { Meets mate.now residual.now search.old back.old search.new back.new result }
 {
-    let mut clock = 1;
-    let mut back_clock = 1;
+    // Both queues grow while they are read, so no range has their turns.
     let mut next = 0;
     loop {
-        if clock < next {
-            return Found::Nothing;
+        if search.clock < next {
+            return None;
         }
-        if back_clock < next {
-            return Found::Nothing;
+        if back.clock < next {
+            return None;
         }
-        let vertex = numbered(mate, trail, next);
-        match visit(
-            mate, residual, false, vertex, order, trail, back_order, clock,
-        ) {
-            Visited::Met(found) => {
-                return Found::At(found);
-            }
-            Visited::On(last) => {
-                clock = last;
-            }
+        let vertex = search.numbered(mate, next);
+        if let ControlFlow::Break(found) = search.visit(mate, residual, vertex, &back.order) {
+            return Some(found);
         }
-        let vertex = numbered(mate, back_trail, next);
-        match visit(
-            mate, residual, true, vertex, back_order, back_trail, order, back_clock,
-        ) {
-            Visited::Met(found) => {
-                return Found::At(found);
-            }
-            Visited::On(last) => {
-                back_clock = last;
-            }
+        let vertex = back.numbered(mate, next);
+        if let ControlFlow::Break(found) = back.visit(mate, residual, vertex, &search.order) {
+            return Some(found);
         }
         next += 1;
     }

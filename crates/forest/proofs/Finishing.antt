@@ -162,24 +162,6 @@ module _ {low high : List ℕ} {K : List Bool} {m : ℕ} {next : List ℕ} {t : 
   all_finished course none k l =
       ⊎_elim (λ f. f) (λ o. absurd (omega (arith, o.some, course.room))) (course.turns k l)
 
-  pub rests : {i : ℕ} → Searching low high K m next t ahead i end → no_place ≤ i
-      → Searching low high K m next t ahead no_place end
-  rests w none =
-      let course = w.course in
-      record {
-        course = record {
-          sized = course.sized;
-          few = course.few;
-          rises = course.rises;
-          trees = course.trees;
-          room = course.room;
-          here = λ l. absurd (omega arith);
-          turns = λ k l. inl (all_finished course none k l);
-          sound = course.sound;
-        };
-        passed = w.passed;
-      }
-
   -- a tree is planted at a vertex that has no place
   module _ (w : Searching low high K m next t ahead no_place end) (v : ℕ) (vertex : v < vertex_limit)
       (new : no_place ≤ at t.number v) where

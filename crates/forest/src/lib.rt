@@ -12,7 +12,8 @@ use graph::Network;
 
 mod search;
 
-// Stands for no place, and for no edge.
+// No place, and no edge, in the columns: the definition `DepthFirst` has these numbers, and an Option would double
+// them.
 pub const NO_PLACE: u16 = VERTEX_LIMIT as u16;
 
 const NO_EDGE: u16 = EDGE_LIMIT as u16;
@@ -40,28 +41,15 @@ impl Forest {
         ensures { (K : List Bool) → table ≡ incidence network K
             → DepthFirst network.low network.high K network.edges network.vertices result }
     {
-        let mut number = [NO_PLACE; VERTEX_LIMIT];
-        let mut order = [0u16; VERTEX_LIMIT];
-        let mut parent = [NO_PLACE; VERTEX_LIMIT];
-        let mut edge = [NO_EDGE; VERTEX_LIMIT];
+        let mut forest = Forest {
+            number: [NO_PLACE; VERTEX_LIMIT],
+            order: [0; VERTEX_LIMIT],
+            parent: [NO_PLACE; VERTEX_LIMIT],
+            edge: [NO_EDGE; VERTEX_LIMIT],
+            count: 0,
+        };
         let mut ahead = table.first;
-        let count = search::plant_all(
-            &network.low,
-            &network.high,
-            &table.next,
-            network.vertices,
-            &mut number,
-            &mut order,
-            &mut parent,
-            &mut edge,
-            &mut ahead,
-        );
-        Forest {
-            number,
-            order,
-            parent,
-            edge,
-            count,
-        }
+        forest.plant_all(&network, &table, &mut ahead);
+        forest
     }
 }

@@ -9,7 +9,7 @@ use Rattle.frame.specs.Table.{STEP, KEPT, COSTS, REFUSAL, kind_of, padded, bytes
 use Rattle.frame.specs.Table.{widths, line_length}
 use Rattle.digits.specs.Hexadecimal.{value_of, digit_of, all_digits, number_of, spell}
 use Rattle.digits.specs.Sign.{unsigned_of}
-use Rattle.frame.specs.Line.{FEED, spell_all, values_of, line_of, fields_of, is_line, placed, line_at, read_line}
+use Rattle.frame.specs.Line.{FEED, spell_all, values_of, line_of, fields_of, is_line, line_at, read_line}
 use Rattle.frame.specs.Kinds.{step_cost_digits, of_step, of_kept, kept_digits, unreserved_digits, of_costs, of_refusal}
 
 -- a line by its digits, read as one number, in front of what follows
@@ -25,7 +25,7 @@ unfolding a-step kind_of padded bytes_of digits_of widths digit_of spell unsigne
 step-written = refl
 
 step-read : read_line STEP a-step 0
-    ≡ answer (placed (of_step (record { v = 1; x = 4; y = 5; z = 1; cost = negsuc 1 })) 35)
+    ≡ answer (of_step (record { v = 1; x = 4; y = 5; z = 1; cost = negsuc 1 }), 35)
 unfolding a-step kind_of padded bytes_of total place_of start_of digits_of widths line_length value_of digit_of spell unsigned_of
     all_digits number_of values_of fields_of is_line line_at read_line step_cost_digits
 step-read = refl
@@ -37,7 +37,7 @@ unfolding kind_of padded bytes_of total place_of start_of digits_of widths line_
 short-step = refl
 
 -- the last edge of the printed kept text, with the place behind its line
-kept_read : read_line KEPT (48 ∷ 53 ∷ 48 ∷ 48 ∷ 48 ∷ 53 ∷ 10 ∷ []) 0 ≡ answer (placed (of_kept (record { edge = 5 })) 7)
+kept_read : read_line KEPT (48 ∷ 53 ∷ 48 ∷ 48 ∷ 48 ∷ 53 ∷ 10 ∷ []) 0 ≡ answer (of_kept (record { edge = 5 }), 7)
 unfolding kind_of padded bytes_of total place_of start_of digits_of widths line_length value_of all_digits number_of values_of
     fields_of is_line line_at read_line
 kept_read = refl

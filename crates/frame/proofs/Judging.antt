@@ -12,11 +12,31 @@ use Rattle.base.specs.Refusals.{FORM}
 use Rattle.frame.specs.Table.{fields, kind_of, widths, total, start_of, line_length}
 use Rattle.digits.specs.Hexadecimal.{all_digits, number_of, number_in}
 use Rattle.frame.specs.Line.{FEED, kind_digits, is_line, line_at, read_line, fields_line}
-use Rattle.digits.specs.declared.hexadecimal.Number.TheVariants.{Spelt, Broken}
+use Rattle.std.proofs.Common.{Option, Some, None, Ok, Err}
+use Rattle.std.specs.Option.{ok_or}
+use Rattle.base.proofs.Bools.{no_answer}
+use Rattle.base.specs.declared.refusals.Refusal.{Refusal}
+use Rattle.base.specs.declared.refusals.Refusal.TheVariants as refusal
 use Rattle.digits.proofs.Spelling.{number_is, number-broken}
 use Rattle.frame.proofs.Columns.{digits-parts}
 use Rattle.frame.proofs.Lines.{Formed, formed}
 use Rattle.frame.proofs.Rows.{start-end}
+
+-- digits that spell no number are refused by their form
+module _ (o : Option ℕ) where
+  pub number-read : {v : ℕ} → Ok v ≡ ok_or o refusal.Form → Some v ≡ o
+  number-read {v} e = go o e
+    where
+      go : (o : Option ℕ) → Ok v ≡ ok_or o refusal.Form → Some v ≡ o
+      go None e = no_answer (cc)
+      go (Some w) e = cc
+
+  pub number_refused : {r : Refusal} → Err r ≡ ok_or o refusal.Form → (None ≡ o) × (r ≡ refusal.Form)
+  number_refused {r} e = go o e
+    where
+      go : (o : Option ℕ) → Err r ≡ ok_or o refusal.Form → (None ≡ o) × (r ≡ refusal.Form)
+      go None e = (refl, cc)
+      go (Some w) e = no_answer (cc)
 
 not_line : (row : ℕ) (t : List ℕ) → (Formed row t → ⊥) → is_line row t ≡ false
 not_line row t n = go (is_line row t) refl
@@ -43,11 +63,11 @@ module _ (row : ℕ) (line : List ℕ) (next : ℕ) where
       ≡ (all_digits (take kind_digits line) && all_digits (take (total (widths row)) (drop kind_digits line)))
   kind-parted = rw (start-end row) (digits-parts kind_digits (total (widths row)) line)
 
-  pub line-no-number : Broken ≡ number_in (take kind_digits line) → refused FORM ≡ line_at row line next
+  pub line-no-number : None ≡ number_in (take kind_digits line) → refused FORM ≡ line_at row line next
   line-no-number b = line_refused
       (λ s. false≢true (rw (kind-parted, number-broken (take kind_digits line) b) at s.digits))
 
-  module _ (k : ℕ) (n : Spelt k ≡ number_in (take kind_digits line)) where
+  module _ (k : ℕ) (n : Some k ≡ number_in (take kind_digits line)) where
     pub line-no-kind : (k ≡ kind_of row → ⊥) → refused FORM ≡ line_at row line next
     line-no-kind x = line_refused (λ s. x ((number_is (take kind_digits line) k n).1 ∙ s.kind))
 

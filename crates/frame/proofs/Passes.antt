@@ -13,9 +13,9 @@ use Rattle.base.specs.Answer.{refused, answer, over}
 use Rattle.base.specs.Refusals.{FORM}
 use Rattle.frame.specs.Table.{rows, fields, kind_of, widths, total, start_of, digits_of, line_length}
 use Rattle.digits.specs.Hexadecimal.{all_digits, number_in, spell}
-use Rattle.frame.specs.Line.{FEED, kind_digits, list_of, fields_from, spell_all, values_of, line_of, fields_of, placed}
+use Rattle.frame.specs.Line.{FEED, kind_digits, list_of, fields_from, spell_all, values_of, line_of, fields_of}
 use Rattle.frame.specs.Line.{fields_line}
-use Rattle.digits.specs.declared.hexadecimal.Number.TheVariants.{Spelt, Broken}
+use Rattle.std.proofs.Common.{Some, None}
 use Rattle.frame.specs.declared.line.Fields.{Fields}
 use Rattle.digits.proofs.Spelling.{number_is, number-broken, spell-append}
 use Rattle.frame.proofs.Columns.{digits-parts}
@@ -70,12 +70,12 @@ module _ (row : ℕ) (line values : List ℕ) (k : ℕ) (r : ReadTo row line val
         ∙ rw (← behind row k line)
         (digits-parts (digits_of row k) (total (drop (k + 1) (widths row))) (drop (start_of row k) line))
 
-    pub read-stop : (next : ℕ) → Broken ≡ number_in (take (digits_of row k) (drop (start_of row k) line))
+    pub read-stop : (next : ℕ) → None ≡ number_in (take (digits_of row k) (drop (start_of row k) line))
         → refused FORM ≡ fields_line row line next
     unfolding fields_line
     read-stop next e = rw (parted, number-broken _ e)
 
-    pub read_more : (v : ℕ) → Spelt v ≡ number_in (take (digits_of row k) (drop (start_of row k) line))
+    pub read_more : (v : ℕ) → Some v ≡ number_in (take (digits_of row k) (drop (start_of row k) line))
         → ReadTo row line (set values k v) (k + 1)
     unfolding values_of
     read_more v e =
@@ -90,7 +90,7 @@ module _ (row : ℕ) (line values : List ℕ) (k : ℕ) (r : ReadTo row line val
           digits = sym (rw n.0 at parted);
         }
 
-  pub read_all : (next : ℕ) → fields ≤ k → answer (placed (fields_from values) next) ≡ fields_line row line next
+  pub read_all : (next : ℕ) → fields ≤ k → answer (fields_from values, next) ≡ fields_line row line next
   unfolding fields_line fields_of total values_of all_digits
   read_all next h =
       let w = widths-end row k h in

@@ -13,9 +13,24 @@ use lib.Seq.{drop-cons, take_all, take-nil}
 use borrow.Author.Tests.{ltb-true, leb-true, eqb-true}
 use Rattle.digits.specs.Hexadecimal.{byte_values}
 use Rattle.frame.specs.Table.{table, rows, fields, columns, kind_of, padded, bytes_of, total, place_of, entry_of}
-use Rattle.frame.specs.Table.{start_of, digits_of, widths, entries_to, entries_of}
+use Rattle.frame.specs.Table.{row_of, start_of, digits_of, widths, entries_to, entries_of}
+use Rattle.frame.specs.declared.table.Kind.{Kind}
+use Rattle.frame.specs.declared.table.Kind.TheVariants as kind
 use Rattle.base.specs.Fold.{fold, tabulate}
 use Rattle.base.proofs.Sums.{each-each-at, tabulate-at}
+
+-- the table has a row for each kind
+pub row-listed : (k : Kind) → row_of k < rows
+row-listed kind.Head = omega arith
+row-listed kind.Edge = omega arith
+row-listed kind.Step = omega arith
+row-listed kind.Dropped = omega arith
+row-listed kind.Kept = omega arith
+row-listed kind.Costs = omega arith
+row-listed kind.TableHead = omega arith
+row-listed kind.Span = omega arith
+row-listed kind.Reason = omega arith
+row-listed kind.Refusal = omega arith
 
 -- sums
 total-next : (ns : List ℕ) (k : ℕ) → total (take (suc k) ns) ≡ total (take k ns) + get_or ns k 0

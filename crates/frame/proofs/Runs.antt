@@ -1,6 +1,6 @@
 -- Runs of frames, read frame by frame.
 -- Assumes nothing.
-use mathlib.Core.Path.{◌≡◌, refl, sym, ◌∙◌, ap}
+use mathlib.Core.Path.{◌≡◌, refl, ◌∙◌, ap}
 use mathlib.Core.Bool.{Bool, true, false, cond}
 use mathlib.Core.List.{List, [], ◌∷◌}
 use Prim.Native.Nat.{ℕ, zero, suc, ◌+◌, ◌/◌, ◌≤◌, ◌<◌}
@@ -13,24 +13,21 @@ use Rattle.base.proofs.Bools.{no_answer}
 use Rattle.base.specs.Answer.{Answer, refused, answer}
 use Rattle.base.specs.Refusals.{FORM}
 use Rattle.frame.specs.Table.{line_length}
-use Rattle.frame.specs.Line.{Placed, placed, answer_of, fields_of, is_line, line_at, read_line, Fits}
+use Rattle.frame.specs.Line.{fields_of, is_line, line_at, read_line, Fits}
 use Rattle.frame.specs.Frames.{done, broken, frame, frames_of, frames_to_end}
 use Rattle.frame.specs.declared.line.Fields.{Fields}
-use Rattle.frame.specs.declared.line.Line.{Line}
 use Rattle.frame.proofs.Lines.{formed, line-fits}
 
--- what is read at a place, by the case that a reader finds
-pub read_as : {l case : Line} {a : Answer Placed} → l ≡ case → answer_of l ≡ a → answer_of case ≡ a
-read_as e r = ap answer_of (sym e) ∙ r
+-- what is read at a place, by whether a line of a row's kind stands there
+abbrev read_if : Bool → ℕ → List ℕ → ℕ → Answer (Fields × ℕ)
+read_if b row text at = cond b (answer (fields_of row (drop at text), at + line_length row)) (refused FORM)
 
 -- a line's only refusal is its form
 pub only-form : (row : ℕ) (text : List ℕ) (at j : ℕ) → refused j ≡ read_line row text at → j ≡ FORM
 unfolding read_line line_at
 only-form row text at j x = go (is_line row (drop at text)) x
   where
-    go : (b : Bool)
-        → refused j ≡ cond b (answer (placed (fields_of row (drop at text)) (at + line_length row))) (refused FORM)
-        → j ≡ FORM
+    go : (b : Bool) → refused j ≡ read_if b row text at → j ≡ FORM
     go true y = no_answer (cc)
     go false y = cc
 
@@ -44,17 +41,17 @@ pub record Next (row at : ℕ) (text : List ℕ) (f : Fields) (next : ℕ) : Typ
   pub fits : Fits row f
 
 module _ (row at : ℕ) (text : List ℕ) where
-  pub next-read : (f : Fields) (next : ℕ) → answer (placed f next) ≡ read_line row text at → Next row at text f next
+  pub next-read : (f : Fields) (next : ℕ) → answer (f, next) ≡ read_line row text at → Next row at text f next
   unfolding read_line line_at line_length
   next-read f next e = go (is_line row (drop at text)) refl e
     where
       go : (b : Bool) → is_line row (drop at text) ≡ b
-          → answer (placed f next)
-          ≡ cond b (answer (placed (fields_of row (drop at text)) (at + line_length row))) (refused FORM)
+          → answer (f, next) ≡ read_if b row text at
           → Next row at text f next
       go true i e =
-          let p : f ≡ fields_of row (drop at text) = cc in
-          let q : next ≡ at + line_length row = cc in
+          let w : ◌≡◌ {A = Fields × ℕ} (f, next) (fields_of row (drop at text), at + line_length row) = cc in
+          let p : f ≡ fields_of row (drop at text) = ap (λ (x : Fields × ℕ). x.0) w in
+          let q : next ≡ at + line_length row = ap (λ (x : Fields × ℕ). x.1) w in
           let l = (formed row (drop at text) i).long in
           record {
             is = i;
@@ -66,12 +63,12 @@ module _ (row at : ℕ) (text : List ℕ) where
           }
       go false i e = no_answer (cc)
 
-  pub none_read : refused FORM ≡ read_line row text at → is_line row (drop at text) ≡ false
+  pub none_read : {j : ℕ} → refused j ≡ read_line row text at → is_line row (drop at text) ≡ false
   unfolding read_line line_at
-  none_read e = go (is_line row (drop at text)) refl e
+  none_read {j} e = go (is_line row (drop at text)) refl e
     where
       go : (b : Bool) → is_line row (drop at text) ≡ b
-          → refused FORM ≡ cond b (answer (placed (fields_of row (drop at text)) (at + line_length row))) (refused FORM)
+          → refused j ≡ read_if b row text at
           → is_line row (drop at text) ≡ false
       go true i e = no_answer (cc)
       go false i e = i
@@ -83,7 +80,7 @@ module _ (row at : ℕ) (text : List ℕ) where
     unfolding frames_of
     frames-next f next x = rw (x.is, x.fields, x.place, drop-drop)
 
-    frames-broken : refused FORM ≡ read_line row text at → frames_of (row ∷ due) (drop at text) ≡ broken
+    frames-broken : {j : ℕ} → refused j ≡ read_line row text at → frames_of (row ∷ due) (drop at text) ≡ broken
     unfolding frames_of
     frames-broken e = rw (none_read e)
 
@@ -107,7 +104,7 @@ module _ (due text : List ℕ) (i at : ℕ) where
         → frames_of (drop i due) (drop at text) ≡ frame f (frames_of (drop (i + 1) due) (drop next text))
     run-next f next x = rw due-next (frames-next row at text (drop (i + 1) due) f next x)
 
-    pub run-broken : refused FORM ≡ read_line row text at → frames_of (drop i due) (drop at text) ≡ broken
+    pub run-broken : {j : ℕ} → refused j ≡ read_line row text at → frames_of (drop i due) (drop at text) ≡ broken
     run-broken x = rw due-next (frames-broken row at text (drop (i + 1) due) x)
 
   module _ (h : length due ≤ i) where
@@ -130,7 +127,7 @@ module _ (row at : ℕ) (text : List ℕ) where
       ∙ add-one _ in
       rw q (frames-next row at text (replicate (length (drop next text) / line_length row) row) f next x)
 
-  pub end-broken : at < length text → refused FORM ≡ read_line row text at → frames_to_end row (drop at text) ≡ broken
+  pub end-broken : at < length text → {j : ℕ} → refused j ≡ read_line row text at → frames_to_end row (drop at text) ≡ broken
   unfolding frames_to_end
   end-broken h e = go (length (drop at text) / line_length row)
     where

@@ -5,8 +5,6 @@ use Rattle.base.specs.Refusals.{FORM}
 use Rattle.frame.specs.Table.{rows, fields, kind_of, widths, total, start_of, line_length, entries_of}
 use Rattle.digits.specs.Hexadecimal.{all_digits, number_of, spell}
 use Rattle.frame.specs.declared.line.Fields.{Fields}
-use Rattle.frame.specs.declared.line.Line.{Line}
-use Rattle.frame.specs.declared.line.Line.TheVariants.{Frame, Refused}
 
 -- the line feed
 abbrev pub FEED : ℕ
@@ -56,21 +54,12 @@ is_line row t =
     (eqb (get_or t (start_of row fields) 0) FEED &&
     (all_digits (take (start_of row fields) t) && eqb (number_of 0 (take kind_digits t)) (kind_of row)))
 
--- a frame's fields, and the place behind its line
-pub data Placed : Type 0 where
-  placed : (frame : Fields) (next : ℕ) → Placed
-
--- what each case of a Line says: the frame, or refusal 1
-abbrev pub answer_of : Line → Answer Placed
-answer_of (Frame f next) = answer (placed f next)
-answer_of Refused = refused FORM
-
 -- the frame of the line that t starts with, with the place behind it, or refusal 1
-unfoldable pub line_at : ℕ → List ℕ → ℕ → Answer Placed
-line_at row t next = cond (is_line row t) (answer (placed (fields_of row t) next)) (refused FORM)
+unfoldable pub line_at : ℕ → List ℕ → ℕ → Answer (Fields × ℕ)
+line_at row t next = cond (is_line row t) (answer (fields_of row t, next)) (refused FORM)
 
 -- what stands at a place of a text
-unfoldable pub read_line : ℕ → List ℕ → ℕ → Answer Placed
+unfoldable pub read_line : ℕ → List ℕ → ℕ → Answer (Fields × ℕ)
 read_line row text at = line_at row (drop at text) (at + line_length row)
 
 -- a line that is long enough for the fields of a row with these entries
@@ -81,9 +70,9 @@ pub record HasFields (entries : ℕ) (line : List ℕ) : Type 0 where
   pub long : start_of row fields ≤ length line
 
 -- the frame of a line whose kind and feed are right
-unfoldable pub fields_line : ℕ → List ℕ → ℕ → Answer Placed
+unfoldable pub fields_line : ℕ → List ℕ → ℕ → Answer (Fields × ℕ)
 fields_line row t next =
-    cond (all_digits (take (total (widths row)) (drop kind_digits t))) (answer (placed (fields_of row t) next))
+    cond (all_digits (take (total (widths row)) (drop kind_digits t))) (answer (fields_of row t, next))
     (refused FORM)
 
 -- each number has room in its digits

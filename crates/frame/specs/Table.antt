@@ -1,6 +1,8 @@
 -- The table of frames, as documents 01 and 02 print it.
 use Rattle.std.specs.Prelude.{List, [], ◌∷◌, map, ℕ, zero, suc, ◌+◌, ◌*◌, get_or, take}
 use Rattle.digits.specs.Hexadecimal.{byte_values}
+use Rattle.frame.specs.declared.table.Kind.{Kind}
+use Rattle.frame.specs.declared.table.Kind.TheVariants as kind
 
 -- the kinds, and how many bytes each of their fields has
 abbrev pub table : List (ℕ × List ℕ)
@@ -52,6 +54,19 @@ REASON = 8
 
 abbrev pub REFUSAL : ℕ
 REFUSAL = 9
+
+-- the row of each kind
+abbrev pub row_of : Kind → ℕ
+row_of kind.Head = HEAD
+row_of kind.Edge = EDGE
+row_of kind.Step = STEP
+row_of kind.Dropped = DROPPED
+row_of kind.Kept = KEPT
+row_of kind.Costs = COSTS
+row_of kind.TableHead = TABLE_HEAD
+row_of kind.Span = SPAN
+row_of kind.Reason = REASON
+row_of kind.Refusal = REFUSAL
 
 -- how many fields a frame can have
 abbrev pub fields : ℕ

@@ -8,7 +8,7 @@ ghost use Rattle.frame.specs.Kinds.{of_dropped, kept_of, of_kept, costs_of, of_c
 ghost use Rattle.frame.specs.Kinds.{of_reason, of_refusal};
 
 use super::line::{ABSENT, Fields};
-use super::table::{COSTS, EDGE, SPAN, STEP, digits_of};
+use super::table::{Kind, digits_of};
 use digits::{signed_of, unsigned_of};
 
 // Kind 01: how many vertices a network has, and its reserved edge.
@@ -98,6 +98,7 @@ const COSTS_UNRESERVED: usize = 1;
 
 const SPAN_COST: usize = 3;
 
+// Of and into a frame's fields; not as From, since kinds with a signed field ask that it fits, and From asks nothing.
 impl Head {
     pub fn of(f: Fields) -> Self
         ensures { result ≡ head_of f }
@@ -128,7 +129,7 @@ impl Edge {
             number: f.first,
             lower: f.second,
             higher: f.third,
-            cost: signed_of(f.fourth, digits_of(EDGE, EDGE_COST)),
+            cost: signed_of(f.fourth, digits_of(Kind::Edge, EDGE_COST)),
         }
     }
 
@@ -140,7 +141,7 @@ impl Edge {
             first: self.number,
             second: self.lower,
             third: self.higher,
-            fourth: unsigned_of(self.cost, digits_of(EDGE, EDGE_COST)),
+            fourth: unsigned_of(self.cost, digits_of(Kind::Edge, EDGE_COST)),
             ..ABSENT
         }
     }
@@ -156,7 +157,7 @@ impl Step {
             x: f.second,
             y: f.third,
             z: f.fourth,
-            cost: signed_of(f.fifth, digits_of(STEP, STEP_COST)),
+            cost: signed_of(f.fifth, digits_of(Kind::Step, STEP_COST)),
         }
     }
 
@@ -168,7 +169,7 @@ impl Step {
             second: self.x,
             third: self.y,
             fourth: self.z,
-            fifth: unsigned_of(self.cost, digits_of(STEP, STEP_COST)),
+            fifth: unsigned_of(self.cost, digits_of(Kind::Step, STEP_COST)),
         }
     }
 }
@@ -213,8 +214,8 @@ impl Costs {
         ensures { result ≡ costs_of f }
     {
         Costs {
-            kept: signed_of(f.first, digits_of(COSTS, COSTS_KEPT)),
-            unreserved: signed_of(f.second, digits_of(COSTS, COSTS_UNRESERVED)),
+            kept: signed_of(f.first, digits_of(Kind::Costs, COSTS_KEPT)),
+            unreserved: signed_of(f.second, digits_of(Kind::Costs, COSTS_UNRESERVED)),
         }
     }
 
@@ -222,8 +223,8 @@ impl Costs {
         ensures { result ≡ of_costs self }
     {
         Fields {
-            first: unsigned_of(self.kept, digits_of(COSTS, COSTS_KEPT)),
-            second: unsigned_of(self.unreserved, digits_of(COSTS, COSTS_UNRESERVED)),
+            first: unsigned_of(self.kept, digits_of(Kind::Costs, COSTS_KEPT)),
+            second: unsigned_of(self.unreserved, digits_of(Kind::Costs, COSTS_UNRESERVED)),
             ..ABSENT
         }
     }
@@ -250,7 +251,7 @@ impl Span {
             lower: f.first,
             higher: f.second,
             weight: f.third,
-            cost: signed_of(f.fourth, digits_of(SPAN, SPAN_COST)),
+            cost: signed_of(f.fourth, digits_of(Kind::Span, SPAN_COST)),
         }
     }
 }

@@ -6,7 +6,5 @@ mod line;
 mod table;
 
 pub use kinds::{Costs, Dropped, Edge, Head, Kept, Reason, Refusal, Span, Step, TableHead};
-pub use line::{Fields, LINE_FEED, Line, put_line, read_line};
-pub use table::{
-    COSTS, DROPPED, EDGE, HEAD, KEPT, REASON, REFUSAL, SPAN, STEP, TABLE_HEAD, length_of,
-};
+pub use line::{Fields, LINE_FEED, put_line, read_line};
+pub use table::{Kind, length_of};

@@ -1,12 +1,13 @@
 // Lines: a frame's fields, spelt at the places that the table gives, and a line feed.
 ghost use Rattle.std.specs.Prelude.{◌≡◌, ℕ, ◌+◌, ◌<◌, ◌≤◌, length, take, drop};
-ghost use Rattle.base.specs.Answer.{over};
-ghost use Rattle.frame.specs.Table.{rows, fields, start_of, digits_of, line_length, entries_of};
+ghost use Rattle.base.specs.Answer.{told, over};
+ghost use Rattle.frame.specs.Table.{rows, fields, row_of, start_of, digits_of, line_length, entries_of};
 ghost use Rattle.digits.specs.Hexadecimal.{digit_values, number_in, spell};
-ghost use Rattle.frame.specs.Line.{fields_from, list_of, answer_of, line_at, read_line, fields_line, line_of, HasFields};
+ghost use Rattle.frame.specs.Line.{fields_from, list_of, line_at, read_line, fields_line, line_of, HasFields};
 
-use super::table::{FIELDS, entries_of, kind_of, length_of, start_in, start_of};
-use digits::{BYTE_VALUES, Number, digit_values, put_number, read_number};
+use super::table::{FIELDS, Kind, entries_of, length_of, number_of, start_in, start_of};
+use base::Refusal;
+use digits::{BYTE_VALUES, digit_values, put_number, read_number};
 
 pub const LINE_FEED: u8 = 10;
 
@@ -51,15 +52,8 @@ impl Fields {
     }
 }
 
-// What stands at a place of a text: a frame and the place behind its line, or a refusal.
-#[derive(Clone, Copy)]
-pub enum Line {
-    Frame(Fields, usize),
-    Refused,
-}
-
-// The number that a field of a line spells, by the entries of its row.
-fn read_field(line: &[u8], entries: u64, field: usize, values: &[u8; BYTE_VALUES]) -> Number
+// The number that a field of a line spells, by the entries of its row, if its bytes are digits.
+fn read_field(line: &[u8], entries: u64, field: usize, values: &[u8; BYTE_VALUES]) -> Option<u64>
     requires { HasFields entries line.now × (field < fields) × (values.now ≡ digit_values) }
     ensures { (row : ℕ) → row < rows → entries ≡ entries_of row
         → result ≡ number_in (take (digits_of row field) (drop (start_of row field) line.now)) }
@@ -81,71 +75,71 @@ fn put_field(out: &mut [u8], entries: u64, field: usize, number: u64)
 }
 
 // The fields of a line, with the place behind it, where the bytes at their places are digits.
-fn read_fields(line: &[u8], row: usize, next: usize, values: &[u8; BYTE_VALUES]) -> Line
-    requires { (row < rows) × (start_of row fields ≤ length line.now) × (values.now ≡ digit_values) }
-    ensures { answer_of result ≡ fields_line row line.now next }
+fn read_fields(
+    line: &[u8],
+    kind: Kind,
+    next: usize,
+    values: &[u8; BYTE_VALUES],
+) -> Result<(Fields, usize), Refusal>
+    requires { (start_of (row_of kind) fields ≤ length line.now) × (values.now ≡ digit_values) }
+    ensures { told result ≡ fields_line (row_of kind) line.now next }
 {
-    let entries = entries_of(row);
-    let mut numbers = [0u64; FIELDS];
-    let mut k = 0;
-    while k < FIELDS {
-        let Number::Spelt(number) = read_field(line, entries, k, values) else {
-            return Line::Refused;
-        };
-        numbers[k] = number;
-        k += 1;
+    let entries = entries_of(kind);
+    let mut numbers = [0; FIELDS];
+    for (field, number) in numbers.iter_mut().enumerate() {
+        *number = read_field(line, entries, field, values).ok_or(Refusal::Form)?;
     }
-    Line::Frame(Fields::of(numbers), next)
+    Ok((Fields::of(numbers), next))
 }
 
-// The frame of a row's kind whose line `line` starts with, with the place behind the line.
-fn line_at(line: &[u8], row: usize, next: usize, values: &[u8; BYTE_VALUES]) -> Line
-    requires { (row < rows) × (values.now ≡ digit_values) }
-    ensures { answer_of result ≡ line_at row line.now next }
+// The frame of a kind whose line `line` starts with, with the place behind the line.
+fn line_at(
+    line: &[u8],
+    kind: Kind,
+    next: usize,
+    values: &[u8; BYTE_VALUES],
+) -> Result<(Fields, usize), Refusal>
+    requires { values.now ≡ digit_values }
+    ensures { told result ≡ line_at (row_of kind) line.now next }
 {
-    let end = start_of(row, FIELDS);
+    let end = start_of(kind, FIELDS);
     if line.len() <= end {
-        return Line::Refused;
+        return Err(Refusal::Form);
     }
     if line[end] != LINE_FEED {
-        return Line::Refused;
+        return Err(Refusal::Form);
     }
-    let Number::Spelt(kind) = read_number(&line[..KIND_DIGITS], values) else {
-        return Line::Refused;
-    };
-    if kind != kind_of(row) {
-        return Line::Refused;
+    let number = read_number(&line[..KIND_DIGITS], values).ok_or(Refusal::Form)?;
+    if number != number_of(kind) {
+        return Err(Refusal::Form);
     }
-    read_fields(line, row, next, values)
+    read_fields(line, kind, next, values)
 }
 
-// The frame of a row's kind at a place of a text.
-pub fn read_line(text: &[u8], at: usize, row: usize) -> Line
-    requires { row < rows }
-    ensures { answer_of result ≡ read_line row text.now at }
+// The frame of a kind at a place of a text, with the place behind its line.
+pub fn read_line(text: &[u8], at: usize, kind: Kind) -> Result<(Fields, usize), Refusal>
+    ensures { told result ≡ read_line (row_of kind) text.now at }
 {
     if text.len() < at {
-        return Line::Refused;
+        return Err(Refusal::Form);
     }
     let values = digit_values();
-    let next = at + length_of(row);
-    line_at(&text[at..], row, next, &values)
+    let next = at + length_of(kind);
+    line_at(&text[at..], kind, next, &values)
 }
 
 // Writes a frame's line to the start of `out`, and answers its length.
-pub fn put_line(out: &mut [u8], row: usize, f: Fields) -> usize
-    requires { (row < rows) × (line_length row ≤ length out.old) }
-    ensures { (result ≡ line_length row) × (out.new ≡ over (line_of row f) out.old) }
+pub fn put_line(out: &mut [u8], kind: Kind, f: Fields) -> usize
+    requires { line_length (row_of kind) ≤ length out.old }
+    ensures { (result ≡ line_length (row_of kind)) × (out.new ≡ over (line_of (row_of kind) f) out.old) }
 {
     let numbers = f.numbers();
-    let entries = entries_of(row);
-    let end = start_of(row, FIELDS);
+    let entries = entries_of(kind);
+    let end = start_of(kind, FIELDS);
     out[end] = LINE_FEED;
-    let mut k = FIELDS;
-    while 0 < k {
-        k -= 1;
-        put_field(out, entries, k, numbers[k]);
+    for field in (0..FIELDS).rev() {
+        put_field(out, entries, field, numbers[field]);
     }
-    put_number(&mut out[..KIND_DIGITS], kind_of(row));
+    put_number(&mut out[..KIND_DIGITS], number_of(kind));
     end + 1
 }

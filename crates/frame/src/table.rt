@@ -1,6 +1,6 @@
 // The one table of frames: their kinds, the places of their fields and their lengths.
 ghost use Rattle.std.specs.Prelude.{◌≡◌, ℕ, ◌<◌, ◌≤◌};
-ghost use Rattle.frame.specs.Table.{rows, columns, fields, entry_of, entries_of, kind_of, start_of, digits_of};
+ghost use Rattle.frame.specs.Table.{rows, columns, fields, row_of, entry_of, entries_of, kind_of, start_of, digits_of};
 ghost use Rattle.frame.specs.Table.{line_length};
 ghost use Rattle.digits.specs.Hexadecimal.{byte_values};
 
@@ -16,26 +16,30 @@ const ROWS: usize = 10;
 
 const BYTE_BITS: usize = 8;
 
-// The rows of the table, by what their frames say.
-pub const HEAD: usize = 0;
-
-pub const EDGE: usize = 1;
-
-pub const STEP: usize = 2;
-
-pub const DROPPED: usize = 3;
-
-pub const KEPT: usize = 4;
-
-pub const COSTS: usize = 5;
-
-pub const TABLE_HEAD: usize = 6;
-
-pub const SPAN: usize = 7;
-
-pub const REASON: usize = 8;
-
-pub const REFUSAL: usize = 9;
+// The kinds of frames, in the order of the table's rows.
+#[derive(Clone, Copy, Debug, PartialEq, Eq, Hash)]
+pub enum Kind {
+    // 01: how many vertices a network has, and its reserved edge.
+    Head,
+    // 02: an edge.
+    Edge,
+    // 03: a step.
+    Step,
+    // 04: the edge that the ending drops.
+    Dropped,
+    // 05: a kept edge.
+    Kept,
+    // 06: the cost of the kept edges, and of all edges but the reserved one.
+    Costs,
+    // 08: how many vertices a table's network has, its reserved edge, and how many spans the table has.
+    TableHead,
+    // 09: a span.
+    Span,
+    // 0a: an edge, the rule by which it stayed or left, and the step.
+    Reason,
+    // 0f: a refusal.
+    Refusal,
+}
 
 // A row of the table is one number, with a byte for each column: the kind, the byte at which each field starts, and the
 // length in bytes. A field ends where the next one starts; an absent field has no bytes.
@@ -52,12 +56,20 @@ const TABLE: [u64; ROWS] = [
     0x0f_01_02_02_02_02_02,
 ];
 
-// A row of the table.
-pub fn entries_of(row: usize) -> u64
-    requires { row < rows }
-    ensures { result ≡ entries_of row }
+impl Kind {
+    // The row of its frames.
+    fn row(self) -> usize
+        ensures { result ≡ row_of self }
+    {
+        self as usize
+    }
+}
+
+// The entries of a kind's row.
+pub fn entries_of(kind: Kind) -> u64
+    ensures { result ≡ entries_of (row_of kind) }
 {
-    TABLE[row]
+    TABLE[kind.row()]
 }
 
 // A column of every row that has these entries.
@@ -78,34 +90,32 @@ pub fn start_in(entries: u64, field: usize) -> usize
     2 * entry_in(entries, field + 1)
 }
 
-// The kind of a row's frames.
-pub fn kind_of(row: usize) -> u64
-    requires { row < rows }
-    ensures { result ≡ kind_of row }
+// The number of a kind.
+pub fn number_of(kind: Kind) -> u64
+    ensures { result ≡ kind_of (row_of kind) }
 {
-    entry_in(entries_of(row), 0) as u64
+    entry_in(entries_of(kind), 0) as u64
 }
 
 // The digit of a line at which a field starts; behind the last field, how many digits the line has.
-pub fn start_of(row: usize, field: usize) -> usize
-    requires { (row < rows) × (field ≤ fields) }
-    ensures { result ≡ start_of row field }
+pub fn start_of(kind: Kind, field: usize) -> usize
+    requires { field ≤ fields }
+    ensures { result ≡ start_of (row_of kind) field }
 {
-    start_in(entries_of(row), field)
+    start_in(entries_of(kind), field)
 }
 
 // How many digits a field has.
-pub fn digits_of(row: usize, field: usize) -> usize
-    requires { (row < rows) × (field < fields) }
-    ensures { result ≡ digits_of row field }
+pub fn digits_of(kind: Kind, field: usize) -> usize
+    requires { field < fields }
+    ensures { result ≡ digits_of (row_of kind) field }
 {
-    start_of(row, field + 1) - start_of(row, field)
+    start_of(kind, field + 1) - start_of(kind, field)
 }
 
 // How many bytes a line has, with its line feed.
-pub fn length_of(row: usize) -> usize
-    requires { row < rows }
-    ensures { result ≡ line_length row }
+pub fn length_of(kind: Kind) -> usize
+    ensures { result ≡ line_length (row_of kind) }
 {
-    start_of(row, FIELDS) + 1
+    start_of(kind, FIELDS) + 1
 }

@@ -14,7 +14,8 @@ ghost use Rattle.graph.specs.declared.Network.{Network};
 
 pub use kept::{Kept, lift_marks};
 
-// A network by value: edge e joins low[e] and high[e] at a working cost.
+// A network by value: edge e joins low[e] and high[e] at a working cost. The definitions and theorems name these
+// columns.
 // A retired edge is a loop at the vertex that left, at cost 0, so it crosses no cut and costs nothing.
 #[derive(Clone, Copy)]
 pub struct Network {

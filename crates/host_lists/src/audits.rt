@@ -3,7 +3,7 @@ ghost use Rattle.std.specs.Prelude.{◌≡◌};
 ghost use Rattle.audit.specs.Service.{audit_text};
 ghost use Rattle.base.specs.Answer.{refusal_of, number_given};
 
-use audit::{Audited, audit_list};
+use audit::audit_list;
 
 // Audits a list over a network text: whether it joins all vertices, how
 // many it joins to vertex 0, and how many of its edges are critical.
@@ -24,12 +24,12 @@ pub extern "C" fn thinning_audit(
         (audit_text network.now list.now) critical.old }
 {
     match audit_list(network, list) {
-        Audited::Refused(number) => number as u32,
-        Audited::Answered(answers) => {
+        Ok(answers) => {
             *connected = answers.connected;
             *reached = answers.reached;
             *critical = answers.bridges;
             0
         }
+        Err(refusal) => refusal.number() as u32,
     }
 }

@@ -3,7 +3,7 @@ ghost use Rattle.std.specs.Prelude.{◌≡◌, length};
 ghost use Rattle.base.specs.Answer.{given, room_in, after, refusal_of, number_given};
 ghost use Rattle.page.specs.Page.{page_text};
 
-use base::Reply;
+use base::give_out;
 use page::print_page;
 
 // Prints a list over a network text, and gives the page's length.
@@ -22,11 +22,5 @@ pub extern "C" fn thinning_print_page(
         (given (room_in page.old) (page_text network.now list.now))
         written.old }
 {
-    match print_page(network, list, page) {
-        Reply::Refused(number) => number as u32,
-        Reply::Done(length) => {
-            *written = length;
-            0
-        }
-    }
+    give_out(print_page(network, list, page), written)
 }

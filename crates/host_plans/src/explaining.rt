@@ -3,7 +3,7 @@ ghost use Rattle.std.specs.Prelude.{◌≡◌, length};
 ghost use Rattle.base.specs.Answer.{given, room_in, after, refusal_of, number_given};
 ghost use Rattle.reasons.specs.Services.{chain_reasons};
 
-use base::Reply;
+use base::give_out;
 use reasons::explain_chain;
 
 // Checks any bytes proposed as a chain over a network text, writes the reasons text and gives its length.
@@ -21,11 +21,5 @@ pub extern "C" fn thinning_reasons(
     ensures written { written.new ≡ number_given length (given (room_in reasons.old)
         (chain_reasons network.now chain.now)) written.old }
 {
-    match explain_chain(network, chain, reasons) {
-        Reply::Refused(number) => number as u32,
-        Reply::Done(length) => {
-            *written = length;
-            0
-        }
-    }
+    give_out(explain_chain(network, chain, reasons), written)
 }

@@ -3,7 +3,7 @@ ghost use Rattle.std.specs.Prelude.{◌≡◌};
 ghost use Rattle.base.specs.Answer.{refusal_of};
 ghost use Rattle.claim.specs.Services.{accept_network};
 
-use claim::Acceptance;
+use base::give_out;
 use thinning::check_network;
 
 // Checks a network text.
@@ -11,8 +11,5 @@ use thinning::check_network;
 pub extern "C" fn thinning_check_network(network: &[u8]) -> u32
     ensures { result ≡ refusal_of (accept_network network.now) }
 {
-    match check_network(network) {
-        Acceptance::Refused(number) => number as u32,
-        Acceptance::Accepted => 0,
-    }
+    give_out(check_network(network), &mut ())
 }

@@ -1,11 +1,31 @@
 // Plans: a network text is planned, and a proposed chain is checked.
 ghost use Rattle.std.specs.Prelude.{◌≡◌, length};
-ghost use Rattle.base.specs.Answer.{given, filled, room_in, after, refusal_of, number_given};
+ghost use Rattle.base.specs.Answer.{told, given, filled, room_in, after, refusal_of, number_given};
 ghost use Rattle.claim.specs.Services.{check_chain_text, plan_given};
 
-use base::Reply;
+use base::{Refusal, give_out};
 use claim::Planned;
 use thinning::{check_chain, plan};
+
+// Gives the lengths of a plan's texts out, with 0, or a refusal's number, with nothing.
+pub fn give_lengths(
+    reply: Result<Planned, Refusal>,
+    chain_written: &mut usize,
+    kept_written: &mut usize,
+) -> u32
+    ensures number { result ≡ refusal_of (told reply) }
+    ensures chain_written { chain_written.new ≡ number_given (λ lengths. lengths.chain) (told reply) chain_written.old }
+    ensures kept_written { kept_written.new ≡ number_given (λ lengths. lengths.kept) (told reply) kept_written.old }
+{
+    match reply {
+        Ok(lengths) => {
+            *chain_written = lengths.chain;
+            *kept_written = lengths.kept;
+            0
+        }
+        Err(refusal) => refusal.number() as u32,
+    }
+}
 
 // Plans a network text into a chain text and a kept text, and gives their lengths.
 #[unsafe(no_mangle)]
@@ -27,17 +47,7 @@ pub extern "C" fn thinning_plan(
     ensures kept_written { kept_written.new ≡ number_given (λ t. length t.kept)
         (plan_given network.now chain.old kept.old) kept_written.old }
 {
-    match plan(network, chain, kept) {
-        Planned::Refused(number) => number as u32,
-        Planned::Written {
-            chain: chain_length,
-            kept: kept_length,
-        } => {
-            *chain_written = chain_length;
-            *kept_written = kept_length;
-            0
-        }
-    }
+    give_lengths(plan(network, chain, kept), chain_written, kept_written)
 }
 
 // Checks any bytes proposed as a chain over a network text, writes the kept text and gives its length.
@@ -55,11 +65,5 @@ pub extern "C" fn thinning_check_chain(
     ensures kept_written { kept_written.new ≡ number_given length (given (room_in kept.old)
         (check_chain_text network.now chain.now)) kept_written.old }
 {
-    match check_chain(network, chain, kept) {
-        Reply::Refused(number) => number as u32,
-        Reply::Done(length) => {
-            *kept_written = length;
-            0
-        }
-    }
+    give_out(check_chain(network, chain, kept), kept_written)
 }

@@ -3,7 +3,7 @@ ghost use Rattle.std.specs.Prelude.{◌≡◌, length};
 ghost use Rattle.base.specs.Answer.{given, room_in, after, refusal_of, number_given};
 ghost use Rattle.candidates.specs.Services.{candidates_text};
 
-use base::Reply;
+use base::give_out;
 use candidates::plan_candidates;
 
 // Plans a network text for each of many candidates into the costs of their plans, and gives the length of these.
@@ -21,11 +21,5 @@ pub extern "C" fn thinning_plan_candidates(
     ensures written { written.new ≡ number_given length (given (room_in costs.old)
         (candidates_text network.now reserved.now)) written.old }
 {
-    match plan_candidates(network, reserved, costs) {
-        Reply::Refused(number) => number as u32,
-        Reply::Done(length) => {
-            *written = length;
-            0
-        }
-    }
+    give_out(plan_candidates(network, reserved, costs), written)
 }

@@ -3,8 +3,8 @@ ghost use Rattle.std.specs.Prelude.{◌≡◌, length};
 ghost use Rattle.base.specs.Answer.{given, filled, room_in, after, refusal_of, number_given};
 ghost use Rattle.tables.specs.Services.{accept_table, table_plan_given, table_network};
 
-use base::Reply;
-use claim::{Acceptance, Planned};
+use super::plans::give_lengths;
+use base::give_out;
 use tables::{check_table, plan_table, table_network};
 
 // Checks a table text.
@@ -12,10 +12,7 @@ use tables::{check_table, plan_table, table_network};
 pub extern "C" fn thinning_check_table(table: &[u8]) -> u32
     ensures { result ≡ refusal_of (accept_table table.now) }
 {
-    match check_table(table) {
-        Acceptance::Refused(number) => number as u32,
-        Acceptance::Accepted => 0,
-    }
+    give_out(check_table(table), &mut ())
 }
 
 // Plans a table text into a chain text and a kept text, and gives their lengths.
@@ -40,17 +37,7 @@ pub extern "C" fn thinning_plan_table(
         (table_plan_given table.now chain.old kept.old)
         kept_written.old }
 {
-    match plan_table(table, chain, kept) {
-        Planned::Refused(number) => number as u32,
-        Planned::Written {
-            chain: chain_length,
-            kept: kept_length,
-        } => {
-            *chain_written = chain_length;
-            *kept_written = kept_length;
-            0
-        }
-    }
+    give_lengths(plan_table(table, chain, kept), chain_written, kept_written)
 }
 
 // Writes the network text that a table text stands for, and gives its length.
@@ -67,11 +54,5 @@ pub extern "C" fn thinning_table_network(
     ensures written { written.new ≡ number_given length
         (given (room_in network.old) (table_network table.now)) written.old }
 {
-    match table_network(table, network) {
-        Reply::Refused(number) => number as u32,
-        Reply::Done(length) => {
-            *written = length;
-            0
-        }
-    }
+    give_out(table_network(table, network), written)
 }

@@ -4,8 +4,8 @@ ghost use Rattle.base.specs.Answer.{given, filled, room_in, after, refusal_of, n
 ghost use Rattle.chain_text.specs.Columns.{columns};
 ghost use Rattle.chain_text.specs.Text.{in_columns, read_given, write_chain};
 
-use base::Reply;
-use chain_text::{ReadChain, read_chain, write_chain};
+use base::give_out;
+use chain_text::{read_chain, write_chain};
 
 // Reads a chain text for so many vertices into columns, and gives the edge that its ending drops.
 #[unsafe(no_mangle)]
@@ -41,14 +41,11 @@ pub extern "C" fn thinning_read_chain(
         dropped.old }
 {
     match read_chain(vertices, text, v, x, y, z, cost) {
-        ReadChain::Refused(number) => number as u32,
-        ReadChain::Read {
-            steps: _,
-            dropped: edge,
-        } => {
-            *dropped = edge;
+        Ok(read) => {
+            *dropped = read.dropped;
             0
         }
+        Err(refusal) => refusal.number() as u32,
     }
 }
 
@@ -75,11 +72,8 @@ pub extern "C" fn thinning_write_chain(
         (columns v.now x.now y.now z.now cost.now) dropped))
         written.old }
 {
-    match write_chain(vertices, v, x, y, z, cost, dropped, text) {
-        Reply::Refused(number) => number as u32,
-        Reply::Done(length) => {
-            *written = length;
-            0
-        }
-    }
+    give_out(
+        write_chain(vertices, v, x, y, z, cost, dropped, text),
+        written,
+    )
 }

@@ -3,7 +3,7 @@ ghost use Rattle.std.specs.Prelude.{◌≡◌, length};
 ghost use Rattle.base.specs.Answer.{given, room_in, after, refusal_of, number_given};
 ghost use Rattle.list_text.specs.Text.{read_list, write_list};
 
-use base::Reply;
+use base::give_out;
 use list_text::{read_list, write_list};
 
 // Reads a list for so many vertices, and gives how many edges it has.
@@ -20,13 +20,7 @@ pub extern "C" fn thinning_read_list(
     ensures count { count.new ≡ number_given length
         (given (room_in edges.old) (read_list vertices text.now)) count.old }
 {
-    match read_list(vertices, text, edges) {
-        Reply::Refused(number) => number as u32,
-        Reply::Done(length) => {
-            *count = length;
-            0
-        }
-    }
+    give_out(read_list(vertices, text, edges), count)
 }
 
 // Writes a list for so many vertices, and gives its length.
@@ -43,11 +37,5 @@ pub extern "C" fn thinning_write_list(
     ensures written { written.new ≡ number_given length
         (given (room_in text.old) (write_list vertices edges.now)) written.old }
 {
-    match write_list(vertices, edges, text) {
-        Reply::Refused(number) => number as u32,
-        Reply::Done(length) => {
-            *written = length;
-            0
-        }
-    }
+    give_out(write_list(vertices, edges, text), written)
 }

@@ -3,8 +3,8 @@ ghost use Rattle.std.specs.Prelude.{◌≡◌, length};
 ghost use Rattle.base.specs.Answer.{given, filled, room_in, after, refusal_of, number_given};
 ghost use Rattle.network_text.specs.Text.{read_given, meant, write_network};
 
-use base::Reply;
-use network_text::{ReadNetwork, read_network, write_network};
+use base::give_out;
+use network_text::{read_network, write_network};
 
 // Reads a network text into columns, and gives its number of vertices and its reserved edge.
 #[unsafe(no_mangle)]
@@ -35,15 +35,12 @@ pub extern "C" fn thinning_read_network(
         reserved.old }
 {
     match read_network(text, low, high, cost) {
-        ReadNetwork::Refused(number) => number as u32,
-        ReadNetwork::Read {
-            vertices: vertices_read,
-            reserved: reserved_read,
-        } => {
-            *vertices = vertices_read;
-            *reserved = reserved_read;
+        Ok(read) => {
+            *vertices = read.vertices;
+            *reserved = read.reserved;
             0
         }
+        Err(refusal) => refusal.number() as u32,
     }
 }
 
@@ -67,11 +64,8 @@ pub extern "C" fn thinning_write_network(
         (write_network (meant vertices reserved low.now high.now cost.now)))
         written.old }
 {
-    match write_network(vertices, reserved, low, high, cost, text) {
-        Reply::Refused(number) => number as u32,
-        Reply::Done(length) => {
-            *written = length;
-            0
-        }
-    }
+    give_out(
+        write_network(vertices, reserved, low, high, cost, text),
+        written,
+    )
 }

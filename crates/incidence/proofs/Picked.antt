@@ -30,6 +30,12 @@ module _ (p : ℕ → Bool) where
   abbrev pub found : ℕ → Partners
   found e = first_three (pick e 0 p)
 
+  -- four zeros are what is found among no edges
+  pub none-found : {n a b c : ℕ} → (n ≡ 0) × ((a ≡ 0) × ((b ≡ 0) × (c ≡ 0)))
+      → record { count = n; first = a; second = b; third = c } ≡ found 0
+  unfolding pick
+  none-found h = cc
+
   pub found_below : (e : ℕ) → (found e).count ≤ e
   found_below e = pick-few e 0 p
 

@@ -1,13 +1,17 @@
 -- The tally of degrees, edge by edge.
 use mathlib.Core.List.{List}
 use mathlib.Core.Path.{◌≡◌, refl, sym, ap, ◌∙◌}
-use Prim.Native.Nat.{ℕ, ◌+◌, ◌*◌, ◌≤◌, ◌<◌}
+use mathlib.Core.Bool.{Bool}
+use Prim.Native.Nat.{ℕ, zero, suc, ◌+◌, ◌*◌, ◌≤◌, ◌<◌}
 use native.Mathlib.Decide.{ℕ_discrete, dec_lt}
+use native.Mathlib.Numerals.{add-one}
 use native.Mathlib.Omega.{arith}
 use borrow.Author.Tests.{eq-eqb, ne_eqb}
 use lib.Dec.{eqb}
-use lib.ListN.{length, get_or, length-set, replicate, get_or-eq_default}
+use lib.ListN.{length, get_or, take, length-set, replicate, get_or-eq_default}
 use lib.Seq.{ext_get_or, get_or-set_same, get_or-set_other}
+use Rattle.std.specs.List.{list_all}
+use Rattle.std.proofs.lemmas.List.Folds.{list_all_more}
 use Rattle.base.specs.Fold.{fold, each, bit, tabulate}
 use Rattle.graph.specs.Network.{low_end, high_end, ends_at, degree}
 use Rattle.graph.specs.Cut.{four_each}
@@ -27,11 +31,13 @@ counted-at tally i v l = elim (ℕ_discrete i v) [
   | no n ↦ (rw (ne_eqb i v n) (get_or-set_other tally i v (get_or tally i 0 + 1) 0 (λ e. n (sym e)) ∙ omega arith))
 ]
 
-pub counted-below : (tally : List ℕ) (i v : ℕ) → get_or (end_counted tally i) v 0 ≤ get_or tally v 0 + 1
-counted-below tally i v = elim (dec_lt v (length tally)) [
-  | yes l ↦ omega (arith, counted-at tally i v l, bit-low (eqb i v))
-  | no o ↦ rw (get_or-eq_default (end_counted tally i) 0 {n = v} (rw length-set (omega arith))) (omega arith)
-]
+-- a test of each of the first numbers of a list
+pub each-first : (test : ℕ → Bool) (n : ℕ) (xs : List ℕ) → n ≤ length xs
+    → list_all test (take n xs) ≡ each n (λ i. test (get_or xs i 0))
+unfolding fold
+each-first test zero xs h = refl
+each-first test (suc n) xs h =
+    rw (sym (add-one n), list_all_more test xs n 0 (omega arith), each-first test n xs (omega arith)) refl
 
 -- a tally that has f of each vertex
 module _ (f : ℕ → ℕ) where

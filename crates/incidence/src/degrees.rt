@@ -12,10 +12,8 @@ pub fn tally_edge(tally: &mut [u16; VERTEX_LIMIT], low: u8, high: u8)
     requires { (v : ℕ) → at tally.old v + 2 < 2 ^ 16 }
     ensures { tally.new ≡ end_counted (end_counted tally.old low) high }
 {
-    let i = low as usize;
-    tally[i] = tally[i] + 1;
-    let j = high as usize;
-    tally[j] = tally[j] + 1;
+    tally[low as usize] += 1;
+    tally[high as usize] += 1;
 }
 
 // Whether each of the first vertices is counted four times.
@@ -23,12 +21,5 @@ pub fn all_four(tally: &[u16; VERTEX_LIMIT], vertices: usize) -> bool
     requires { vertices ≤ vertex_limit }
     ensures { result ≡ each vertices (λ v. eqb (at tally.now v) 4) }
 {
-    let mut v = 0;
-    while v < vertices {
-        if tally[v] != 4 {
-            return false;
-        }
-        v += 1;
-    }
-    true
+    tally[..vertices].iter().all(|&d| d == 4)
 }

@@ -9,7 +9,7 @@ use base::EDGE_LIMIT;
 use graph::Network;
 
 // How many partners a vertex has, and the first three, 0 for each that there is not.
-#[derive(Clone, Copy)]
+#[derive(Clone, Copy, Default)]
 pub struct Partners {
     pub count: usize,
     pub first: usize,
@@ -23,25 +23,19 @@ impl Partners {
         requires { self.count < edge_limit }
         ensures { result ≡ one_more self e }
     {
-        let count = self.count;
-        self.count = count + 1;
-        if count == 0 {
-            self.first = e;
-            return self;
+        match self.count {
+            0 => self.first = e,
+            1 => self.second = e,
+            2 => self.third = e,
+            _ => {}
         }
-        if count == 1 {
-            self.second = e;
-            return self;
-        }
-        if count == 2 {
-            self.third = e;
-            return self;
-        }
+        self.count += 1;
         self
     }
 }
 
 // Whether edge e is a partner at v in any network with these columns of ends and this reserved edge.
+#[tactic(auto, unfolding(graph::specs::Split::is_partner, graph::specs::Network::touches))]
 fn is_partner<'a>(
     low: &'a [u8; EDGE_LIMIT],
     high: &'a [u8; EDGE_LIMIT],
@@ -53,13 +47,7 @@ fn is_partner<'a>(
     ensures { (g : Network) → g.low ≡ low.now → g.high ≡ high.now → g.reserved ≡ reserved
         → result ≡ is_partner g v e }
 {
-    if e == reserved {
-        return false;
-    }
-    if low[e] == v {
-        return true;
-    }
-    high[e] == v
+    e != reserved && (low[e] == v || high[e] == v)
 }
 
 // The partners at v, in rising order.
@@ -67,20 +55,11 @@ pub fn partners_at(network: Network, v: u8) -> Partners
     requires { network.edges ≤ edge_limit }
     ensures { result ≡ first_three (partners network v) }
 {
-    let edges = network.edges;
-    let reserved = network.reserved;
-    let mut found = Partners {
-        count: 0,
-        first: 0,
-        second: 0,
-        third: 0,
-    };
-    let mut e = 0;
-    while e < edges {
-        if is_partner(&network.low, &network.high, reserved, e, v) {
+    let mut found = Partners::default();
+    for e in 0..network.edges {
+        if is_partner(&network.low, &network.high, network.reserved, e, v) {
             found = found.with(e);
         }
-        e += 1;
     }
     found
 }

@@ -2,28 +2,20 @@
 #![tactic(auto)]
 
 ghost use Rattle.std.specs.Prelude.{◌≡◌, ◌≤◌, length};
-ghost use Rattle.base.specs.Answer.{answer, over, reply_of, after};
+ghost use Rattle.base.specs.Answer.{answer, told, over, reply_of, after};
 ghost use Rattle.base.specs.Limits.{edge_limit};
 ghost use Rattle.list_text.specs.Text.{list_text};
 ghost use Rattle.kept_text.specs.Text.{kept_edges, costs_text, kept_text, kept_length, refusal_text};
 
-use base::{EDGE_LIMIT, Reply, SHORT};
-use frame::{COSTS, Costs, KEPT, Kept, REFUSAL, Refusal, length_of, put_line};
+use base::{EDGE_LIMIT, Refusal};
+use frame::{Costs, Kept, Kind, length_of, put_line};
 
 // How many of the first edges are kept.
 pub fn count_kept(kept: &[bool], edges: usize) -> usize
     requires { edges ≤ length kept.now }
     ensures { result ≡ length (kept_edges edges kept.now) }
 {
-    let mut count = 0;
-    let mut edge = 0;
-    while edge < edges {
-        if kept[edge] {
-            count += 1;
-        }
-        edge += 1;
-    }
-    count
+    kept[..edges].iter().filter(|&&is_kept| is_kept).count()
 }
 
 // How many bytes the kept text has, whatever the costs are.
@@ -31,7 +23,7 @@ pub fn kept_length(kept: &[bool], edges: usize) -> usize
     requires { (edges ≤ length kept.now) × (edges ≤ edge_limit) }
     ensures { result ≡ kept_length (length (kept_edges edges kept.now)) }
 {
-    count_kept(kept, edges) * length_of(KEPT) + length_of(COSTS)
+    count_kept(kept, edges) * length_of(Kind::Kept) + length_of(Kind::Costs)
 }
 
 // Writes the lines of the kept edges to the start of `text`, and answers how many bytes they have.
@@ -41,13 +33,11 @@ fn put_kept(kept: &[bool], edges: usize, text: &mut [u8]) -> usize
         (text.new ≡ over (list_text (kept_edges edges kept.now)) text.old) }
 {
     let mut at = 0;
-    let mut edge = 0;
-    while edge < edges {
+    for edge in 0..edges {
         if kept[edge] {
             let line = Kept { edge: edge as u64 };
-            at += put_line(&mut text[at..], KEPT, line.fields());
+            at += put_line(&mut text[at..], Kind::Kept, line.fields());
         }
-        edge += 1;
     }
     at
 }
@@ -59,7 +49,7 @@ pub fn put_costs(text: &mut [u8], kept: i64, unreserved: i64) -> usize
         (text.new ≡ over (costs_text kept unreserved) text.old) }
 {
     let costs = Costs { kept, unreserved };
-    put_line(text, COSTS, costs.fields())
+    put_line(text, Kind::Costs, costs.fields())
 }
 
 // Writes the kept text of the first edges to the start of `text`.
@@ -81,33 +71,29 @@ pub fn write_kept(
     cost: i64,
     unreserved: i64,
     text: &mut [u8],
-) -> Reply
-    ensures { (result ≡ reply_of (answer (kept_text (kept_edges edges kept) cost unreserved)) text.old) ×
+) -> Result<usize, Refusal>
+    ensures { (told result ≡ reply_of (answer (kept_text (kept_edges edges kept) cost unreserved)) text.old) ×
         (text.new ≡ after (answer (kept_text (kept_edges edges kept) cost unreserved)) text.old) }
 {
-    let marked = if edges < EDGE_LIMIT {
-        edges
-    } else {
-        EDGE_LIMIT
-    };
+    let marked = edges.min(EDGE_LIMIT);
     let length = kept_length(&kept, marked);
     if text.len() < length {
-        return Reply::Refused(SHORT);
+        return Err(Refusal::Short);
     }
     put_text(&kept, marked, cost, unreserved, text);
-    Reply::Done(length)
+    Ok(length)
 }
 
-// Writes the line of a refusal.
-pub fn write_refusal(number: u8, text: &mut [u8]) -> Reply
-    ensures { (result ≡ reply_of (answer (refusal_text number)) text.old) ×
+// Writes the line of a refusal. Its promise is for every number, so it takes no `base::Refusal`.
+pub fn write_refusal(number: u8, text: &mut [u8]) -> Result<usize, Refusal>
+    ensures { (told result ≡ reply_of (answer (refusal_text number)) text.old) ×
         (text.new ≡ after (answer (refusal_text number)) text.old) }
 {
-    let refusal = Refusal {
+    let refusal = frame::Refusal {
         number: number as u64,
     };
-    if text.len() < length_of(REFUSAL) {
-        return Reply::Refused(SHORT);
+    if text.len() < length_of(Kind::Refusal) {
+        return Err(Refusal::Short);
     }
-    Reply::Done(put_line(text, REFUSAL, refusal.fields()))
+    Ok(put_line(text, Kind::Refusal, refusal.fields()))
 }

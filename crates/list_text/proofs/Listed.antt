@@ -93,13 +93,17 @@ rising-numbered n least (frame f fs) =
     go true w = w
     go false w = refused-by UNLISTED (omega arith) (omega arith)
 
-pub read-numbered : (n : ℕ) (t : List ℕ) → Numbered UNLISTED (read_list n t)
-unfolding read_list list_in
-read-numbered n t = go (vertices_ok n)
+pub list-numbered : (n : ℕ) (fs : Frames) → Numbered UNLISTED (list_in n fs)
+unfolding list_in
+list-numbered n fs = go (vertices_ok n)
   where
-    go : (b : Bool) → Numbered UNLISTED (cond b (rising_from n 0 (frames_to_end KEPT t)) (refused VERTICES))
-    go true = rising-numbered n 0 (frames_to_end KEPT t)
+    go : (b : Bool) → Numbered UNLISTED (cond b (rising_from n 0 fs) (refused VERTICES))
+    go true = rising-numbered n 0 fs
     go false = refused-by VERTICES (omega arith) (omega arith)
+
+pub read-numbered : (n : ℕ) (t : List ℕ) → Numbered UNLISTED (read_list n t)
+unfolding read_list
+read-numbered n t = list-numbered n (frames_to_end KEPT t)
 
 -- what a list that reads holds: at most so many edges, and each of them is the network's
 module _ (n : ℕ) (t : List ℕ) (m : Meaning) (e : read_list n t ≡ answer m) where

@@ -1,16 +1,16 @@
 -- What is known while an audit list is read into a working column, and what the column says of a list that was read.
 -- Assumes nothing.
-use mathlib.Core.Path.{◌≡◌, refl, sym, ◌∙◌, ap}
+use mathlib.Core.Path.{◌≡◌, refl, sym, ap}
 use mathlib.Core.Bool.{true, false}
 use mathlib.Core.List.{List, [], ◌∷◌, ◌++◌}
 use Prim.Native.Nat.{ℕ, ◌+◌, ◌≤◌, ◌<◌}
 use native.Mathlib.Omega.{arith}
 use lib.ListN.{length, drop, set}
-use Rattle.base.specs.Answer.{Answer, refused, answer, replied}
-use Rattle.base.specs.Limits.{vertices_ok, vertex_limit}
-use Rattle.base.specs.Refusals.{FORM, VERTICES, UNLISTED}
-use Rattle.base.specs.declared.reply.Reply.{Reply}
-use Rattle.base.specs.declared.reply.Reply.TheVariants.{Refused, Done}
+use Rattle.std.proofs.Common.{Ok, Err}
+use Rattle.base.specs.Answer.{Answer, refused, answer, number_of, replied}
+use Rattle.base.specs.Limits.{vertices_ok, vertex_limit, edge_limit}
+use Rattle.base.specs.declared.refusals.Refusal.{Refusal}
+use Rattle.base.specs.declared.refusals.Refusal.TheVariants as refusal
 use Rattle.base.proofs.Answers.{replied-refused, replied-done}
 use Rattle.base.proofs.Held.{Storing, storing-none, storing-next, Starts, held-starts}
 use Rattle.base.proofs.LimitLaws.{vertices-within}
@@ -33,14 +33,14 @@ pub record Reading (n : ℕ) (text edges₀ edges : List ℕ) (at least count : 
   pub within : at ≤ length text
   pub few : n ≤ vertex_limit
 
--- what the reader replies where it list-refused
-list-refused : {a : Answer Meaning} {edges₀ edges : List ℕ} {k : ℕ} → refused k ≡ a → length edges ≡ length edges₀
-    → ListRead a edges₀ edges (Refused k)
+-- what the reader replies where the list is refused
+list-refused : {a : Answer Meaning} {edges₀ edges : List ℕ} {r : Refusal} → refused (number_of r) ≡ a
+    → length edges ≡ length edges₀ → ListRead a edges₀ edges (Err r)
 unfolding replied
 list-refused e h = rw (← e) (record { reply = refl; holds = h })
 
 module _ (n : ℕ) (text : List ℕ) (edges : List ℕ) where
-  pub reading-limits : vertices_ok n ≡ false → ListRead (read_list n text) edges edges (Refused VERTICES)
+  pub reading-limits : vertices_ok n ≡ false → ListRead (read_list n text) edges edges (Err refusal.Vertices)
   unfolding read_list
   reading-limits e = list-refused (out-of-limits n (frames_to_end KEPT text) e) refl
 
@@ -57,35 +57,36 @@ module _ (n : ℕ) (text : List ℕ) (edges : List ℕ) where
 
 module _ {n : ℕ} {text edges₀ edges : List ℕ} {at least count : ℕ}
     (r : Reading n text edges₀ edges at least count) where
-  pub reading-broken : at < length text → refused FORM ≡ read_line KEPT text at
-      → ListRead (read_list n text) edges₀ edges (Refused FORM)
+  pub reading-broken : {k : ℕ} → at < length text → refused k ≡ read_line KEPT text at
+      → ListRead (read_list n text) edges₀ edges (Err refusal.Form)
   reading-broken h e =
       list-refused (taken-broken _ _ _ _ _ _ r.known (end-broken KEPT at text h e)) r.column.size
 
   -- an edge that is read
   module _ {f : Fields} {next : ℕ} (e : Next KEPT at text f next) {k : Kept} (q : k ≡ kept_of f) where
     pub reading-unlisted : may_follow n least k.edge ≡ false
-        → ListRead (read_list n text) edges₀ edges (Refused UNLISTED)
+        → ListRead (read_list n text) edges₀ edges (Err refusal.Unlisted)
     reading-unlisted h =
         let there = end-next KEPT at text f next e in
         list-refused (taken-unlisted _ _ _ _ _ _ r.known f _ there (rw q at h)) r.column.size
 
-    pub reading-next : MayFollow n least k.edge → count < length edges₀
+    pub reading-next : MayFollow n least k.edge → edge_limit ≤ length edges₀
         → Reading n text edges₀ (set edges count k.edge) next (k.edge + 1) (count + 1)
     reading-next o h =
+        let room : count < length edges₀ = omega (arith, r.known.few) in
         record {
           taken = r.taken ++ (k.edge ∷ []);
           known = rw q (taken_next _ _ _ _ _ _ r.known f _ (end-next KEPT at text f next e) (rw q at o));
-          column = storing-next r.column r.known.counted h k.edge;
+          column = storing-next r.column r.known.counted room k.edge;
           within = e.within;
           few = r.few;
         }
 
-  pub reading-all : length text ≤ at → ListRead (read_list n text) edges₀ edges (Done count)
+  pub reading-all : length text ≤ at → ListRead (read_list n text) edges₀ edges (Ok count)
   unfolding replied
   reading-all h =
       rw (← taken-all _ _ _ _ _ _ r.known (end-done KEPT at text h))
-      (record { reply = ap Done (sym r.known.counted); holds = r.column.holds })
+      (record { reply = ap answer (sym r.known.counted); holds = r.column.holds })
 
 -- a list that was read into a column
 pub record Stored (a : Answer Meaning) (count : ℕ) (edges : List ℕ) : Type 0 where
@@ -93,11 +94,11 @@ pub record Stored (a : Answer Meaning) (count : ℕ) (edges : List ℕ) : Type 0
   pub is : a ≡ answer meaning
   pub starts : Starts count meaning edges
 
-module _ {a : Answer Meaning} {edges₀ edges : List ℕ} {reply : Reply} (r : ListRead a edges₀ edges reply) where
-  pub read-refused : {k : ℕ} → reply ≡ Refused k → a ≡ refused k
-  read-refused {k} e = replied-refused a k (sym e ∙ r.reply)
+module _ {a : Answer Meaning} {edges₀ edges : List ℕ} where
+  pub read-refused : {k : Refusal} → ListRead a edges₀ edges (Err k) → a ≡ refused (number_of k)
+  read-refused {k} r = replied-refused a (number_of k) r.reply
 
-  pub stored : {count : ℕ} → reply ≡ Done count → Stored a count edges
-  stored {count} e =
-      let d = replied-done a count (sym e ∙ r.reply) in
+  pub stored : {count : ℕ} → ListRead a edges₀ edges (Ok count) → Stored a count edges
+  stored {count} r =
+      let d = replied-done a count r.reply in
       record { meaning = d.0; is = d.1; starts = held-starts (λ m. m) edges₀ d.1 r.holds (sym d.2) }

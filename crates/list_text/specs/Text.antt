@@ -1,9 +1,10 @@
 -- Audit lists: what a text means for n vertices, and the text of a meaning.
 use Rattle.std.specs.Prelude.{◌≡◌, Bool, cond, ◌&&◌, List, [], ◌∷◌, map, ℕ, suc, ◌*◌, leb, ltb, length, replicate}
-use Rattle.base.specs.Answer.{Answer, refused, answer, and_then, replied, Held}
+use Rattle.std.specs.Prelude.{Result}
+use Rattle.base.specs.Answer.{Answer, refused, answer, and_then, told, replied, Held}
 use Rattle.base.specs.Limits.{vertices_ok}
 use Rattle.base.specs.Refusals.{FORM, VERTICES, UNLISTED}
-use Rattle.base.specs.declared.reply.Reply.{Reply}
+use Rattle.base.specs.declared.refusals.Refusal.{Refusal}
 use Rattle.frame.specs.Table.{KEPT}
 use Rattle.frame.specs.Kinds.{kept_of, of_kept}
 use Rattle.frame.specs.Frames.{Frames, done, broken, frame, frames_to_end, listed, lines_of}
@@ -40,8 +41,8 @@ unfoldable pub read_list : ℕ → List ℕ → Answer Meaning
 read_list n t = list_in n (frames_to_end KEPT t)
 
 -- what reading a list into a working column replies, and what the column holds
-pub record ListRead (a : Answer Meaning) (edges₀ edges : List ℕ) (r : Reply) : Type 0 where
-  pub reply : r ≡ replied a
+pub record ListRead (a : Answer Meaning) (edges₀ edges : List ℕ) (r : Result ℕ Refusal) : Type 0 where
+  pub reply : told r ≡ replied a
   pub holds : Held (λ m. m) a edges₀ edges
 
 -- ── writing ──

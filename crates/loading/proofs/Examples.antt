@@ -13,8 +13,7 @@ use Rattle.frame.specs.Line.{values_of, fields_of, is_line, line_at, read_line}
 use Rattle.frame.specs.Kinds.{cost_digits}
 use Rattle.frame.proofs.Examples.{printed as line}
 use Rattle.network_frames.specs.Frames.{head_refusal, edge_refusal, head_in, read_head, edge_in, read_edge}
-use Rattle.loading.specs.Pass.{onward, run_of, edges_at, tally_of, pass_over, pass_behind, pass_of}
-use Rattle.loading.specs.declared.pass.Pass.{Pass}
+use Rattle.loading.specs.Pass.{Pass, onward, run_of, edges_at, tally_of, pass_over, pass_behind, pass_of}
 
 -- an edge by its digits, in front of what follows
 abbrev edge : ℕ → List ℕ → List ℕ

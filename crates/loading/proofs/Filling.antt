@@ -1,5 +1,6 @@
 -- What is known while the edges of a network are stored in the state: as they are read from its text, or from columns.
 use mathlib.Core.Path.{◌≡◌, refl, ◌∙◌, ap}
+use mathlib.Core.Bool.{true}
 use mathlib.Core.List.{List, [], ◌∷◌, ◌++◌, map, append-nil}
 use Prim.Native.Nat.{ℕ, zero, suc, ◌+◌, ◌*◌, ◌-◌, ◌≤◌, ◌<◌}
 use native.Mathlib.Numerals.{add-one}
@@ -8,10 +9,15 @@ use borrow.Author.Tests.{lt-ltb, le-ltb}
 use lib.ListN.{length, get_or, set, replicate, length-append, length-replicate}
 use lib.Seq.{take_all, append_snoc}
 use lib.IntN.{ℤ, pos}
+use mir.Syntax.{w64}
+use mir.Val.{to_z, of_z}
+use mir.Facts.{to_z-of_z}
 use Rattle.base.specs.Answer.{refused, answer, over}
-use Rattle.base.specs.Limits.{edge_limit, vertex_limit}
+use Rattle.base.specs.Limits.{edge_limit, vertex_limit, cost_ok}
 use Rattle.base.specs.Refusals.{FORM}
 use Rattle.base.proofs.Filling.{Copying, copying-none, copying-next, copying-all}
+use Rattle.base.proofs.Integers.{size_fits}
+use Rattle.base.proofs.LimitLaws.{cost-within}
 use Rattle.base.proofs.Held.{Storing, storing-none, part-next}
 use Rattle.base.proofs.Parts.{over-at}
 use Rattle.frame.specs.declared.kinds.Edge.{Edge}
@@ -20,10 +26,14 @@ use Rattle.graph.specs.declared.Network.{Network}
 use Rattle.incidence.specs.Degrees.{degrees_of, degrees_among, end_counted}
 use Rattle.incidence.proofs.Tally.{no_edge, one-more-edge, all_edges, degrees-below}
 use Rattle.network_text.specs.Text.{Meaning, Valid, meaning_of}
-use Rattle.network_frames.specs.Frames.{found, read_edge}
-use Rattle.loading.specs.Loading.{state_of, no_ends, no_costs, network_of, loaded_of}
+use Rattle.network_frames.specs.Frames.{read_edge}
+use Rattle.loading.specs.Loading.{state_of, no_ends, no_costs, network_of}
 use Rattle.loading.specs.Pass.{Run, onward, run_of, tally_of, pass_over}
 use Rattle.loading.proofs.Counting.{counted_none, counted_next, counted-most}
+
+-- a cost within the limit is kept as it is
+pub cost-kept : (c : ℤ) → cost_ok c ≡ true → to_z w64 (of_z w64 c) ≡ c
+cost-kept c e = to_z-of_z (size_fits c (omega (arith, cost-within c e)))
 
 -- ── the state ──
 
@@ -73,7 +83,7 @@ pub record Filling (text : List ℕ) (n r first : ℕ) (g : Network) (tally : Li
   pub tallied : tally ≡ tally_of passed
 
 pub filling-none : {text : List ℕ} (n r : ℕ) {first : ℕ} {g : Network} → g ≡ state_of n r no_ends no_ends no_costs
-    → Filling text n g.reserved first g (replicate vertex_limit 0) first 0
+    → Filling text n r first g (replicate vertex_limit 0) first 0
 unfolding state_of
 filling-none n r e =
     let all : 2 * n - 0 ≡ 2 * n = omega arith in
@@ -96,13 +106,13 @@ module _ {text : List ℕ} {n r first : ℕ} {g : Network} {tally : List ℕ} {a
   pub filling-room : (v : ℕ) → get_or tally v 0 ≤ i
   filling-room v = rw w.tallied (omega (arith, counted-most w.passed v, w.count))
 
-  -- what is handed back with a refusal or 0 is what the pass comes to
-  abbrev Comes : ℕ → Type 0
-  Comes k =
-      record { refusal = k; place = at; read = i; network = g; tally = tally }
+  -- what is handed back with a refusal or 0, of so many edges, is what the pass comes to
+  abbrev Comes : ℕ → ℕ → Type 0
+  Comes k read =
+      record { refusal = k; place = at; read = read; network = g; tally = tally }
       ≡ pass_over (record { vertices = n; reserved = r }) (run_of text n (2 * n) 0 first)
 
-  comes : {k : ℕ} → run_of text n (2 * n - i) i at ≡ record { edges = []; refusal = k; place = at } → Comes k
+  comes : {k : ℕ} → run_of text n (2 * n - i) i at ≡ record { edges = []; refusal = k; place = at } → Comes k i
   unfolding pass_over network_of meaning_of
   comes x =
       rw (
@@ -121,17 +131,18 @@ module _ {text : List ℕ} {n r first : ℕ} {g : Network} {tally : List ℕ} {a
     one-due : 2 * n - i ≡ suc (2 * n - (i + 1))
     one-due = omega arith
 
-    pub filling-refused : {k : ℕ} → refused k ≡ read_edge text at n i → Comes k
+    pub filling-refused : {k : ℕ} → refused k ≡ read_edge text at n i → Comes k i
     unfolding run_of onward
     filling-refused x = comes (rw (one-due, ← x))
 
-    pub filling-next : {e : Edge} {next : ℕ} {tally' : List ℕ} → answer (found e next) ≡ read_edge text at n i
-        → tally' ≡ end_counted (end_counted tally e.lower) e.higher → e.lower < e.higher → n ≤ vertex_limit
+    pub filling-next : {p : Edge × ℕ} {tally' : List ℕ} → answer p ≡ read_edge text at n i
+        → tally' ≡ end_counted (end_counted tally p.0.lower) p.0.higher → p.0.lower < p.0.higher → n ≤ vertex_limit
         → Filling text n r first
-        (with_columns g (set g.low i e.lower) (set g.high i e.higher) (set g.cost i e.cost))
-        tally' next (i + 1)
+        (with_columns g (set g.low i p.0.lower) (set g.high i p.0.higher) (set g.cost i p.0.cost))
+        tally' p.1 (i + 1)
     unfolding run_of onward
-    filling-next {e} {next} x one_more rising few =
+    filling-next {p} x one_more rising few =
+        let e = p.0 in
         record {
           passed = w.passed ++ (e ∷ []);
           count = length-append w.passed (e ∷ []) ∙ omega (arith, w.count);
@@ -142,7 +153,7 @@ module _ {text : List ℕ} {n r first : ℕ} {g : Network} {tally : List ℕ} {a
                 one-due,
                 ← x,
                 add-one,
-                append_snoc w.passed e (run_of text n (2 * n - suc i) (suc i) next).edges,
+                append_snoc w.passed e (run_of text n (2 * n - suc i) (suc i) p.1).edges,
               );
           lows = part-next (λ a. a.lower) w.passed e w.lows w.count (room {A = ℕ} 0);
           highs = part-next (λ a. a.higher) w.passed e w.highs w.count (room {A = ℕ} 0);
@@ -162,13 +173,16 @@ module _ {text : List ℕ} {n r first : ℕ} {g : Network} {tally : List ℕ} {a
     none-due : 2 * n - i ≡ zero
     none-due = omega arith
 
-    pub filling-left : at < length text → Comes FORM
-    unfolding run_of
-    filling-left m = comes (rw (none-due, lt-ltb at (length text) m))
+    every : i ≡ 2 * n
+    every = omega (arith, w.within)
 
-    pub filling-end : length text ≤ at → Comes 0
+    pub filling-left : at < length text → Comes FORM (2 * n)
     unfolding run_of
-    filling-end m = comes (rw (none-due, le-ltb at (length text) m))
+    filling-left m = rw every at (comes {k = FORM} (rw (none-due, lt-ltb at (length text) m)))
+
+    pub filling-end : length text ≤ at → Comes 0 (2 * n)
+    unfolding run_of
+    filling-end m = rw every at (comes {k = 0} (rw (none-due, le-ltb at (length text) m)))
 
 -- ── edges that stand in columns ──
 
@@ -225,7 +239,7 @@ module _ {m : Meaning} where
         high_is = unfold network_of state_of in over-at m.high no_ends 0 i (omega (arith, s.high_count))
 
     module _ (l : 2 * m.vertices ≤ i) where
-      stored-all : g ≡ network_of m
+      pub stored-all : g ≡ network_of m
       unfolding network_of
       stored-all =
           w.state
@@ -236,11 +250,7 @@ module _ {m : Meaning} where
           whole {xs = xs} {old = old} k e =
               copying-all k l ∙ ap (λ ys. over ys old) (take_all (2 * m.vertices) xs (omega arith))
 
-      stored-degrees : degrees ≡ degrees_of (network_of m)
+      pub stored-degrees : degrees ≡ degrees_of g
       stored-degrees =
           let e : i ≡ (network_of m).edges = unfold network_of state_of in omega (arith, w.lows.within) in
-          w.tallied ∙ rw e (all_edges (network_of m))
-
-      pub stored_loaded : record { refusal = 0; network = g; degrees = degrees } ≡ loaded_of (answer (network_of m))
-      unfolding loaded_of
-      stored_loaded = rw (stored-all, stored-degrees)
+          w.tallied ∙ rw (e, stored-all) (all_edges (network_of m))

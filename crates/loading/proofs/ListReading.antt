@@ -8,8 +8,6 @@ use lib.ListN.{length, take, drop, get_or, length-take}
 use lib.Seq.{take-append_seam, get_or-take}
 use Rattle.base.proofs.Bools.{no_answer}
 use Rattle.base.specs.Answer.{Answer, refused, answer, and_then, over, replied, reply_of, after}
-use Rattle.base.specs.declared.reply.Reply.{Reply}
-use Rattle.base.specs.declared.reply.Reply.TheVariants.{Refused, Done}
 use Rattle.base.proofs.Answers.{refuses, fits, replied-refused, replied-done}
 use Rattle.base.specs.Refusals.{UNLISTED}
 use Rattle.base.specs.Limits.{edge_limit, vertex_limit}
@@ -41,8 +39,8 @@ module _ (n : ℕ) (l old : List ℕ) (room : length old ≡ edge_limit) where
       go (refused k) q = unfold replied in sym (refuses (refused k) old k refl).0
       go (answer es) q = unfold replied in sym (fits (answer es) old es refl (omega (arith, list-few n l es q))).0
 
-  pub list-refused : (r : Reply) (k : ℕ) → r ≡ reply_of (read_list n l) old → r ≡ Refused k → read_list n l ≡ refused k
-  list-refused r k p e = replied-refused (read_list n l) k (sym e ∙ p ∙ reply-is)
+  pub list-refused : {k : ℕ} → refused k ≡ reply_of (read_list n l) old → read_list n l ≡ refused k
+  list-refused {k} p = replied-refused (read_list n l) k (p ∙ reply-is)
 
   module _ (es edges : List ℕ) (count : ℕ)
       (d : read_list n l ≡ answer es) (c : count ≡ length es) (o : edges ≡ over es old) where
@@ -60,10 +58,10 @@ module _ (n : ℕ) (l old : List ℕ) (room : length old ≡ edge_limit) where
           omega (arith, list-below-at n l es d i (omega arith));
     }
 
-  pub list_read : (r : Reply) (edges : List ℕ) (count : ℕ) → r ≡ reply_of (read_list n l) old
-      → edges ≡ after (read_list n l) old → r ≡ Done count → Listed n l edges count
-  list_read r edges count p q e =
-      let d = replied-done (read_list n l) count (sym e ∙ p ∙ reply-is) in
+  pub list_read : {edges : List ℕ} {count : ℕ} → answer count ≡ reply_of (read_list n l) old
+      → edges ≡ after (read_list n l) old → Listed n l edges count
+  list_read {edges} {count} p q =
+      let d = replied-done (read_list n l) count (p ∙ reply-is) in
       let few : length d.0 ≤ length old = omega (arith, list-few n l d.0 d.1) in
       held d.0 edges count d.1 d.2 (q ∙ sym (fits (read_list n l) old d.0 d.1 few).1)
 
@@ -127,7 +125,7 @@ module _ (t l : List ℕ) where
   pub list-known : (g : Network) (K : List Bool) → load_list t l ≡ answer (g, K) → Known g
   list-known g K e = loaded-known t g (list-found g K e).network
 
--- ── what was loaded, by its refusal ──
+-- ── what was loaded ──
 
 pub list-numbered : (t l : List ℕ) → Numbered UNLISTED (load_list t l)
 unfolding load_list
@@ -135,19 +133,21 @@ list-numbered t l =
     then-meeting (load_network t) _ (numbered-up (omega arith) (load-numbered t))
     (λ g. then-meeting (read_list g.vertices l) _ (read-numbered g.vertices l) (λ es. answered _))
 
-module _ (a : Answer (Network × List Bool)) {top : ℕ} (n : Numbered top a)
-    {r : LoadedList} (e : r ≡ loaded_list_of a) where
-  pub list-zero : r.refusal ≤ 0 → a ≡ answer (r.network, r.listed)
-  list-zero h = go a refl
+-- what a reply says of the answer, as a caller finds it
+module _ (a : Answer (Network × List Bool)) where
+  pub list-answered : {l : LoadedList} → answer l ≡ loaded_list_of a → a ≡ answer (l.network, l.listed)
+  unfolding loaded_list_of
+  list-answered {l} e = go a refl e
     where
-      go : (b : Answer (Network × List Bool)) → a ≡ b → a ≡ answer (r.network, r.listed)
-      go (refused k) q = unfold loaded_list_of in
-          absurd (omega (arith, ap (λ x. x.refusal) (e ∙ ap loaded_list_of q), (n.number k q).0))
-      go (answer (g, K)) q = unfold loaded_list_of in rw (e, q)
+      go : (b : Answer (Network × List Bool)) → a ≡ b → answer l ≡ loaded_list_of b → a ≡ answer (l.network, l.listed)
+      go (refused k) q x = no_answer (cc)
+      go (answer p) q x =
+          let same : l ≡ record { network = p.0; listed = p.1 } = cc in rw (q, same)
 
-  pub list-number : 0 < r.refusal → a ≡ refused r.refusal
-  list-number h = go a refl
+  pub list-refusal : {k : ℕ} → refused k ≡ loaded_list_of a → a ≡ refused k
+  unfolding loaded_list_of
+  list-refusal {k} e = go a refl e
     where
-      go : (b : Answer (Network × List Bool)) → a ≡ b → a ≡ refused r.refusal
-      go (refused k) q = unfold loaded_list_of in rw (e, q)
-      go (answer (g, K)) q = unfold loaded_list_of in absurd (omega (arith, ap (λ x. x.refusal) (e ∙ ap loaded_list_of q)))
+      go : (b : Answer (Network × List Bool)) → a ≡ b → refused k ≡ loaded_list_of b → a ≡ refused k
+      go (refused j) q x = cc
+      go (answer p) q x = no_answer (cc)

@@ -17,7 +17,7 @@ use Rattle.base.proofs.Answers.{unless-refused}
 use Rattle.frame.specs.Table.{EDGE, line_length}
 use Rattle.frame.specs.declared.kinds.Head.{Head}
 use Rattle.frame.specs.declared.kinds.Edge.{Edge}
-use Rattle.network_frames.specs.Frames.{Found, found, read_head, read_edge}
+use Rattle.network_frames.specs.Frames.{read_head, read_edge}
 use Rattle.network_frames.proofs.Passed.{EdgeFine, edge-fine}
 use Rattle.network_text.specs.Text.{meaning_of, read_network, edges_of}
 use Rattle.network_text.proofs.Edges.{Passing, passing-none, passing-end, passing-stop, passing-refused, passing-next}
@@ -45,7 +45,7 @@ module _ (text : List ℕ) (n r : ℕ) where
       by-frame (read_edge text at n i) refl
       (λ a next q. decides k (suc i) next (passed ++ (a ∷ [])) (omega arith) (rw add-one at q))
     where
-      by-frame : (a : Answer (Found Edge)) → a ≡ read_edge text at n i
+      by-frame : (a : Answer (Edge × ℕ)) → a ≡ read_edge text at n i
           → ((b : Edge) (next : ℕ)
           → Passing (read_network text) (meaning_of n r) n (passed ++ (b ∷ [])) (i + 1) (left n text next (i + 1))
           → Decides (passed ++ (b ∷ [])) (run_of text n k (suc i) next))
@@ -54,18 +54,19 @@ module _ (text : List ℕ) (n r : ℕ) where
           let y = edge-refused n text at i (omega arith) x in
           let positive = ((checked-numbered n i (left n text at i)).number j y).0 in
           passing-refused p y ∙ sym (unless-refused j _ positive)
-      by-frame (answer (found b next)) x later =
-          later b next (passing-next p (edge-found n text at i (omega arith) x))
-          ∙ rw (append_snoc passed b (run_of text n k (suc i) next).edges)
+      by-frame (answer found) x later =
+          later found.0 found.1 (passing-next p (edge-found n text at i (omega arith) x))
+          ∙ rw (append_snoc passed found.0 (run_of text n k (suc i) found.1).edges)
 
 -- the run of all edges behind a head that is read
-pub run-decides : (text : List ℕ) {h : Head} {first : ℕ} → answer (found h first) ≡ read_head text →
-    let n = h.vertices in
-    let run = run_of text n (2 * n) 0 first in
-    read_network text ≡ unless run.refusal (answer (meaning_of n h.reserved run.edges))
+pub run-decides : (text : List ℕ) {p : Head × ℕ} → answer p ≡ read_head text →
+    let n = p.0.vertices in
+    let run = run_of text n (2 * n) 0 p.1 in
+    read_network text ≡ unless run.refusal (answer (meaning_of n p.0.reserved run.edges))
 unfolding edges_of
-run-decides text {h} {first} x =
-    decides text h.vertices h.reserved (2 * h.vertices) 0 first [] (omega arith)
+run-decides text {p} x =
+    let h = p.0 in
+    decides text h.vertices h.reserved (2 * h.vertices) 0 p.1 [] (omega arith)
     (passing-none (edges-due text x))
 
 -- the j-th of some edges, with a number
@@ -83,17 +84,17 @@ pub record Ran (text : List ℕ) (n k i at : ℕ) (run : Run) : Type 0 where
   pub few : length run.edges ≤ k
   pub read : (j : ℕ) → j < length run.edges
       → read_edge text (at + j * line_length EDGE) n (i + j)
-      ≡ answer (found (nth run.edges (i + j) j) (at + suc j * line_length EDGE))
+      ≡ answer (nth run.edges (i + j) j, at + suc j * line_length EDGE)
   pub refuses : length run.edges < k
       → read_edge text run.place n (i + length run.edges) ≡ refused run.refusal
   pub place : run.place ≡ at + length run.edges * line_length EDGE
 
 module _ (text : List ℕ) (n : ℕ) where
   -- one edge more before a run
-  ran-next : (k i at : ℕ) {e : Edge} {next : ℕ} {later : Run} → answer (found e next) ≡ read_edge text at n i
-      → Ran text n k (suc i) next later
-      → Ran text n (suc k) i at (record { edges = e ∷ later.edges; refusal = later.refusal; place = later.place })
-  ran-next k i at {e} {next} {later} x w =
+  ran-next : (k i at : ℕ) {p : Edge × ℕ} {later : Run} → answer p ≡ read_edge text at n i
+      → Ran text n k (suc i) p.1 later
+      → Ran text n (suc k) i at (record { edges = p.0 ∷ later.edges; refusal = later.refusal; place = later.place })
+  ran-next k i at {p} {later} x w =
       record {
         few = omega (arith, w.few);
         read = read;
@@ -102,6 +103,12 @@ module _ (text : List ℕ) (n : ℕ) where
         place = w.place ∙ omega (arith, f.place, suc-mul (length later.edges) (line_length EDGE));
       }
     where
+      e : Edge
+      e = p.0
+
+      next : ℕ
+      next = p.1
+
       f : EdgeFine n at i e next
       f = edge-fine text n at i x
 
@@ -111,12 +118,12 @@ module _ (text : List ℕ) (n : ℕ) where
 
       read : (j : ℕ) → j < suc (length later.edges)
           → read_edge text (at + j * line_length EDGE) n (i + j)
-          ≡ answer (found (nth (e ∷ later.edges) (i + j) j) (at + suc j * line_length EDGE))
+          ≡ answer (nth (e ∷ later.edges) (i + j) j, at + suc j * line_length EDGE)
       read zero l =
           let p : at + 0 * line_length EDGE ≡ at = omega (arith, zero-mul (line_length EDGE)) in
           let q : i + 0 ≡ i = omega arith in
           let s : at + 1 * line_length EDGE ≡ next = omega (arith, f.place, one-mul (line_length EDGE)) in
-          rw (p, q, s) (sym x ∙ ap (λ a. answer (found a next)) as-numbered)
+          rw (p, q, s) (sym x ∙ ap (λ (a : Edge). answer (a, next)) as-numbered)
       read (suc j) l =
           let p : at + suc j * line_length EDGE ≡ next + j * line_length EDGE =
           omega (arith, f.place, suc-mul j (line_length EDGE)) in
@@ -136,7 +143,7 @@ module _ (text : List ℕ) (n : ℕ) where
       }
   ran (suc k) i at = by-frame (read_edge text at n i) refl (λ next. ran k (suc i) next)
     where
-      by-frame : (a : Answer (Found Edge)) → a ≡ read_edge text at n i
+      by-frame : (a : Answer (Edge × ℕ)) → a ≡ read_edge text at n i
           → ((next : ℕ) → Ran text n k (suc i) next (run_of text n k (suc i) next))
           → Ran text n (suc k) i at (onward at a (λ next. run_of text n k (suc i) next))
       by-frame (refused m) x later =
@@ -146,4 +153,4 @@ module _ (text : List ℕ) (n : ℕ) where
             refuses = λ l. let e : i + 0 ≡ i = omega arith in rw e (sym x);
             place = omega arith;
           }
-      by-frame (answer (found e next)) x later = ran-next k i at x (later next)
+      by-frame (answer found) x later = ran-next k i at x (later found.1)

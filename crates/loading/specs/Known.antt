@@ -4,8 +4,6 @@ use Rattle.graph.specs.Network.{cost_of}
 use Rattle.graph.specs.Sound.{Fresh}
 use Rattle.base.specs.Limits.{fewest_vertices, edge_limit, vertex_limit, cost_limit}
 use Rattle.graph.specs.declared.Network.{Network}
-use Rattle.incidence.specs.Degrees.{degrees_of}
-use Rattle.loading.specs.declared.Loaded.{Loaded}
 
 pub record Known (g : Network) : Type 0 where
   -- its ends are vertices, and every vertex is present
@@ -20,8 +18,3 @@ pub record Known (g : Network) : Type 0 where
   pub edge_room : g.edges ≤ edge_limit
   -- its column of lower ends is as long as the state's
   pub long : length g.low ≡ edge_limit
-
--- what the services ask of what was loaded: where nothing is refused, the network is known, with its degrees
-pub record Ready (l : Loaded) : Type 0 where
-  pub known : l.refusal ≡ 0 → Known l.network
-  pub degrees : l.degrees ≡ degrees_of l.network

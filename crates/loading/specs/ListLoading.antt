@@ -6,7 +6,7 @@ use Rattle.base.specs.Fold.{among, tabulate}
 use Rattle.base.specs.Limits.{edge_limit}
 use Rattle.graph.specs.State.{no_marks}
 use Rattle.graph.specs.declared.Network.{Network}
-use Rattle.loading.specs.Loading.{load_network, no_network}
+use Rattle.loading.specs.Loading.{load_network}
 use Rattle.loading.specs.declared.list.LoadedList.{LoadedList}
 
 -- a mark for each edge that a network has room for: whether it is listed
@@ -20,10 +20,10 @@ load_list t l = and_then (load_network t) (λ g. and_then (read_list g.vertices 
 
 -- ── what the code asks for and answers ──
 
--- a refusal's number, no network and no marks, or 0, the network and the marks
-unfoldable pub loaded_list_of : Answer (Network × List Bool) → LoadedList
-loaded_list_of (refused k) = record { refusal = k; network = no_network; listed = no_marks }
-loaded_list_of (answer (g, K)) = record { refusal = 0; network = g; listed = K }
+-- the network and the marks, or the refusal
+unfoldable pub loaded_list_of : Answer (Network × List Bool) → Answer LoadedList
+loaded_list_of (refused k) = refused k
+loaded_list_of (answer p) = answer (record { network = p.0; listed = p.1 })
 
 -- what marking the first `count` edges asks for: they are there, each has a place, and none is marked yet
 pub record Markable (edges : List ℕ) (count : ℕ) (marks : List Bool) : Type 0 where

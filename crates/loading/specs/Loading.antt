@@ -1,12 +1,12 @@
 -- The state of a network that is read from its text.
-use Rattle.std.specs.Prelude.{List, ℕ, ◌*◌, ltb, replicate, ℤ, pos}
-use Rattle.base.specs.Answer.{Answer, refused, answer, and_then, over, unless}
+use Rattle.std.specs.Prelude.{List, ℕ, ◌*◌, ltb, replicate, ℤ, pos, Result, Ok, Err}
+use Rattle.base.specs.Answer.{Answer, refused, answer, number_of, and_then, over}
+use Rattle.base.specs.declared.refusals.Refusal.{Refusal}
 use Rattle.network_text.specs.Text.{Meaning, read_network}
 use Rattle.base.specs.Fold.{tabulate}
 use Rattle.base.specs.Limits.{edge_limit, vertex_limit}
 use Rattle.graph.specs.declared.Network.{Network}
-use Rattle.incidence.specs.Degrees.{degrees_of}
-use Rattle.loading.specs.declared.Loaded.{Loaded}
+use Rattle.loading.specs.declared.loaded.Loaded.{Loaded}
 
 -- a network with these columns, every vertex present
 unfoldable pub state_of : ℕ → ℕ → List ℕ → List ℕ → List ℤ → Network
@@ -42,11 +42,7 @@ load_network t = and_then (read_network t) (λ m. answer (network_of m))
 unfoldable pub no_network : Network
 no_network = state_of 0 0 no_ends no_ends no_costs
 
--- a refusal's number and no network, or 0 and the network; and its degrees
-unfoldable pub loaded_of : Answer Network → Loaded
-loaded_of (refused k) = record { refusal = k; network = no_network; degrees = degrees_of no_network }
-loaded_of (answer g) = record { refusal = 0; network = g; degrees = degrees_of g }
-
--- what was loaded: the network, or the refusal
-unfoldable pub loaded_answer : Loaded → Answer Network
-loaded_answer l = unless l.refusal (answer l.network)
+-- what was loaded: the network, or the refusal. Its degrees are known of the type
+abbrev pub loaded_answer : Result Loaded Refusal → Answer Network
+loaded_answer (Ok l) = answer l.network
+loaded_answer (Err r) = refused (number_of r)

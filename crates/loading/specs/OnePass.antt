@@ -10,7 +10,7 @@ use Rattle.frame.specs.declared.kinds.Edge.{Edge}
 use Rattle.graph.specs.Network.{low_end, high_end, cost_of, touches}
 use Rattle.graph.specs.declared.Network.{Network}
 use Rattle.incidence.specs.Degrees.{degrees_of}
-use Rattle.network_frames.specs.Frames.{found, read_head, read_edge}
+use Rattle.network_frames.specs.Frames.{read_head, read_edge}
 use Rattle.loading.specs.Loading.{load_network}
 use Rattle.loading.specs.Pass.{pass_of}
 
@@ -24,7 +24,7 @@ pub record Frames (t : List ℕ) (h : Head) (first : ℕ) : Type 0 where
   -- 'frames 02 read without a refusal': the i-th of them stands behind i others and is edge i of the network
   pub read : (i : ℕ) → i < (pass_of t).read
       → read_edge t (first + i * line_length EDGE) h.vertices i
-      ≡ answer (found (frame_of (pass_of t).network i) (first + suc i * line_length EDGE))
+      ≡ answer (frame_of (pass_of t).network i, first + suc i * line_length EDGE)
   -- the next one, where one is due, is the refused one
   pub refuses : (pass_of t).read < 2 * h.vertices
       → read_edge t (pass_of t).place h.vertices (pass_of t).read ≡ refused (pass_of t).refusal
@@ -32,7 +32,7 @@ pub record Frames (t : List ℕ) (h : Head) (first : ℕ) : Type 0 where
   pub place : (pass_of t).place ≡ first + (pass_of t).read * line_length EDGE
 
 pub record OnePass : Type 0 where
-  pub frames : (t : List ℕ) (h : Head) (first : ℕ) → read_head t ≡ answer (found h first) → Frames t h first
+  pub frames : (t : List ℕ) (h : Head) (first : ℕ) → read_head t ≡ answer (h, first) → Frames t h first
   -- a head that is refused is refused at the text's start, and no frame 02 is read
   pub no_head : (t : List ℕ) (k : ℕ) → read_head t ≡ refused k → ((pass_of t).place ≡ 0) × ((pass_of t).read ≡ 0)
   -- 'each cabinet's tally is exactly the number of cables at it among those read'

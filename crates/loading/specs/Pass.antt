@@ -1,16 +1,17 @@
 -- One pass over a network text (document 02's ports and fields together): its edge frames are
 -- read one after the other up to the first refusal, and the edges that were read are tallied.
 use Rattle.std.specs.Prelude.{cond, ◌||◌, List, [], ◌∷◌, ℕ, zero, suc, ◌+◌, ◌*◌, ltb, eqb, length}
-use Rattle.base.specs.Answer.{Answer, refused, answer}
+use Rattle.base.specs.Answer.{Answer, refused, answer, told, refusal_of}
 use Rattle.base.specs.Fold.{bit, tabulate}
 use Rattle.base.specs.Limits.{vertex_limit}
 use Rattle.base.specs.Refusals.{FORM}
 use Rattle.frame.specs.declared.kinds.Head.{Head}
 use Rattle.frame.specs.declared.kinds.Edge.{Edge}
-use Rattle.network_frames.specs.Frames.{Found, found, read_head, read_edge}
+use Rattle.graph.specs.declared.Network.{Network}
+use Rattle.network_frames.specs.Frames.{read_head, read_edge}
 use Rattle.network_text.specs.Text.{meaning_of}
 use Rattle.loading.specs.Loading.{network_of, no_network}
-use Rattle.loading.specs.declared.pass.Pass.{Pass}
+use Rattle.loading.specs.declared.pass.Pass.{Pass as Handed}
 
 -- ── the frames 02 ──
 
@@ -22,10 +23,10 @@ pub record Run : Type 0 where
   pub place : ℕ
 
 -- what the frame at a place decides: refused, it ends the run; read, it stands before the run behind it
-unfoldable pub onward : ℕ → Answer (Found Edge) → (ℕ → Run) → Run
+unfoldable pub onward : ℕ → Answer (Edge × ℕ) → (ℕ → Run) → Run
 onward at (refused k) later = record { edges = []; refusal = k; place = at }
-onward at (answer (found e next)) later =
-    let run = later next in record { edges = e ∷ run.edges; refusal = run.refusal; place = run.place }
+onward at (answer found) later =
+    let run = later found.1 in record { edges = found.0 ∷ run.edges; refusal = run.refusal; place = run.place }
 
 -- the last k edges of a text, from the i-th and from a place on, of a network with n vertices;
 -- bytes left over behind the last are refused where they start
@@ -46,6 +47,26 @@ tally_of es = tabulate vertex_limit (λ v. edges_at v es)
 
 -- ── the pass ──
 
+-- a refusal's number and the place of what is refused, or 0 and the text's end; how many edges
+-- were read before it, the network with these edges, and how many of them are at each vertex
+pub record Pass : Type 0 where
+  pub refusal : ℕ
+  pub place : ℕ
+  pub read : ℕ
+  pub network : Network
+  pub tally : List ℕ
+
+-- the pass that the code hands back
+abbrev pub passed : Handed → Pass
+passed p =
+    record {
+      refusal = refusal_of (told p.ended);
+      place = p.place;
+      read = p.read;
+      network = p.network;
+      tally = p.tally;
+    }
+
 -- what is handed back of a head and the run behind it: the refusal and its
 -- place, how many edges were read, the network with these edges, their tally
 unfoldable pub pass_over : Head → Run → Pass
@@ -60,10 +81,10 @@ pass_over h run =
     }
 
 -- a head that is refused ends the pass at the text's start, before any edge
-unfoldable pub pass_behind : List ℕ → Answer (Found Head) → Pass
+unfoldable pub pass_behind : List ℕ → Answer (Head × ℕ) → Pass
 pass_behind text (refused k) = record { refusal = k; place = 0; read = 0; network = no_network; tally = tally_of [] }
-pass_behind text (answer (found h first)) =
-    let n = h.vertices in pass_over h (run_of text n (2 * n) 0 first)
+pass_behind text (answer found) =
+    let n = found.0.vertices in pass_over found.0 (run_of text n (2 * n) 0 found.1)
 
 -- the pass over a text
 unfoldable pub pass_of : List ℕ → Pass

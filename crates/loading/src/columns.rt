@@ -1,8 +1,7 @@
 // A network that stands in columns, stored in the state.
 ghost use Rattle.std.specs.Prelude.{◌≡◌};
-ghost use Rattle.base.specs.Answer.{answer};
 ghost use Rattle.network_text.specs.Text.{meant, Valid};
-ghost use Rattle.loading.specs.Loading.{network_of, loaded_of};
+ghost use Rattle.loading.specs.Loading.{network_of};
 
 use super::{Loaded, bare};
 use base::VERTEX_LIMIT;
@@ -17,25 +16,17 @@ pub fn load_columns(
     cost: &[i64],
 ) -> Loaded
     requires { Valid (meant vertices reserved low.now high.now cost.now) }
-    ensures { result ≡ loaded_of (answer
-        (network_of (meant vertices reserved low.now high.now cost.now))) }
+    ensures { result.network ≡ network_of (meant vertices reserved low.now high.now cost.now) }
 {
     let mut network = bare(vertices, reserved);
     let mut degrees = [0u16; VERTEX_LIMIT];
-    let mut i = 0;
-    while i < 2 * vertices {
+    for i in 0..2 * vertices {
         let lower = low[i] as u8;
         let higher = high[i] as u8;
         network.low[i] = lower;
         network.high[i] = higher;
-        let c = cost[i];
-        network.cost[i] = c;
+        network.cost[i] = cost[i];
         tally_edge(&mut degrees, lower, higher);
-        i += 1;
     }
-    Loaded {
-        refusal: 0,
-        network,
-        degrees,
-    }
+    Loaded { network, degrees }
 }

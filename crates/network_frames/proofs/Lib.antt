@@ -1,2 +1,1 @@
 pub mod Passed
-pub mod Cases

@@ -13,13 +13,13 @@ use Rattle.base.specs.Refusals.{VERTICES, RESERVED, ENDS, COST}
 use Rattle.base.proofs.Bools.{no_answer}
 use Rattle.base.proofs.LimitLaws.{vertices-within}
 use Rattle.frame.specs.Table.{HEAD, EDGE, line_length}
-use Rattle.frame.specs.Line.{Placed, placed, read_line}
+use Rattle.frame.specs.Line.{read_line}
 use Rattle.frame.specs.Kinds.{head_of, edge_of}
 use Rattle.frame.specs.declared.line.Fields.{Fields}
 use Rattle.frame.specs.declared.kinds.Head.{Head}
 use Rattle.frame.specs.declared.kinds.Edge.{Edge}
 use Rattle.frame.proofs.Runs.{next-read}
-use Rattle.network_frames.specs.Frames.{head_refusal, edge_refusal, found, head_in, read_head, edge_in, read_edge}
+use Rattle.network_frames.specs.Frames.{head_refusal, edge_refusal, head_in, read_head, edge_in, read_edge}
 
 -- what a head and an edge say that are not refused
 pub record HeadPassed (n r : ℕ) : Type 0 where
@@ -60,46 +60,45 @@ edge-passed n place e h =
     go false p b q c s d t h = absurd (omega arith)
 
 -- a head that is read has passed
-module _ (t : List ℕ) {h : Head} {first : ℕ} (x : answer (found h first) ≡ read_head t) where
-  pub head_fine : HeadPassed h.vertices h.reserved
+module _ (t : List ℕ) {p : Head × ℕ} (x : answer p ≡ read_head t) where
+  pub head_fine : HeadPassed p.0.vertices p.0.reserved
   unfolding read_head head_in and_then unless
   head_fine = go (read_line HEAD t 0) x
     where
       -- by the head's own refusal
       own : (f : Head) (place k : ℕ) → head_refusal f.vertices f.reserved ≡ k
-          → answer (found h first) ≡ unless k (answer (found f place)) → HeadPassed h.vertices h.reserved
-      own f place zero e y = let q : f ≡ h = cc in rw (← q) (head_passed f.vertices f.reserved (omega arith))
+          → answer p ≡ unless k (answer (f, place)) → HeadPassed p.0.vertices p.0.reserved
+      own f place zero e y = let q : p ≡ (f, place) = cc in rw q (head_passed f.vertices f.reserved (omega arith))
       own f place (suc k) e y = no_answer (cc)
 
-      go : (a : Answer Placed) → answer (found h first) ≡ and_then a head_in → HeadPassed h.vertices h.reserved
+      go : (a : Answer (Fields × ℕ)) → answer p ≡ and_then a head_in → HeadPassed p.0.vertices p.0.reserved
       go (refused k) y = no_answer (cc)
-      go (answer (placed f place)) y = own (head_of f) place _ refl y
+      go (answer l) y = own (head_of l.0) l.1 _ refl y
 
 -- an edge that is read has passed, and the next line starts directly behind its own
 pub record EdgeFine (n at i : ℕ) (e : Edge) (next : ℕ) : Type 0 where
   pub passed : EdgePassed n i e
   pub place : next ≡ at + line_length EDGE
 
-module _ (t : List ℕ) (n at i : ℕ) {e : Edge} {next : ℕ} (x : answer (found e next) ≡ read_edge t at n i) where
-  pub edge-fine : EdgeFine n at i e next
+module _ (t : List ℕ) (n at i : ℕ) {p : Edge × ℕ} (x : answer p ≡ read_edge t at n i) where
+  pub edge-fine : EdgeFine n at i p.0 p.1
   unfolding read_edge edge_in and_then unless
   edge-fine = go (read_line EDGE t at) refl x
     where
       -- by the edge's own refusal
-      own : (f : Fields) (place : ℕ) → answer (placed f place) ≡ read_line EDGE t at
-          → (k : ℕ) → edge_refusal n i (edge_of f) ≡ k
-          → answer (found e next) ≡ unless k (answer (found (edge_of f) place)) → EdgeFine n at i e next
-      own f place q zero r y =
-          let u : edge_of f ≡ e = cc in
-          let v : place ≡ next = cc in
-          rw (← u, ← v)
-          (record { passed = edge-passed n i (edge_of f) (omega arith); place = (next-read EDGE at t f place q).place })
-      own f place q (suc k) r y = no_answer (cc)
+      own : (l : Fields × ℕ) → answer l ≡ read_line EDGE t at
+          → (k : ℕ) → edge_refusal n i (edge_of l.0) ≡ k
+          → answer p ≡ unless k (answer (edge_of l.0, l.1)) → EdgeFine n at i p.0 p.1
+      own l q zero r y =
+          let u : p ≡ (edge_of l.0, l.1) = cc in
+          rw u
+          (record { passed = edge-passed n i (edge_of l.0) (omega arith); place = (next-read EDGE at t l.0 l.1 q).place })
+      own l q (suc k) r y = no_answer (cc)
 
-      go : (a : Answer Placed) → a ≡ read_line EDGE t at → answer (found e next) ≡ and_then a (edge_in n i)
-          → EdgeFine n at i e next
+      go : (a : Answer (Fields × ℕ)) → a ≡ read_line EDGE t at → answer p ≡ and_then a (edge_in n i)
+          → EdgeFine n at i p.0 p.1
       go (refused k) q y = no_answer (cc)
-      go (answer (placed f place)) q y = own f place q _ refl y
+      go (answer l) q y = own l q _ refl y
 
 -- the refusals of a network text are those up to an edge's cost
 pub head_small : (n r : ℕ) → head_refusal n r ≤ COST

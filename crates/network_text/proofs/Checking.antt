@@ -9,8 +9,10 @@ use native.Mathlib.Numerals.{add-one}
 use lib.ListN.{length, drop, length-drop, drop_of_length-le}
 use lib.Seq.{drop-cons}
 use lib.IntN.{ℤ, pos}
-use Rattle.base.specs.Answer.{Answer, refused, answer, and_then, refusal_of}
+use Rattle.base.specs.Answer.{Answer, refused, answer, and_then, number_of, refusal_of}
 use Rattle.base.specs.Refusals.{FORM}
+use Rattle.base.specs.declared.refusals.Refusal.{Refusal}
+use Rattle.base.proofs.Answers.{number-above}
 use Rattle.frame.specs.declared.kinds.Edge.{Edge}
 use Rattle.network_frames.specs.Frames.{edge_refusal}
 use Rattle.network_text.specs.Text.{Edges, finished, interrupted, next, checked, in_columns}
@@ -103,14 +105,18 @@ module _ {n : ℕ} {low high : List ℕ} {cost : List ℤ} {i : ℕ} (c : Checki
             q,
           )
 
-      pub checking-refused : 0 < edge_refusal n i e → Replies (edge_refusal n i e)
-      checking-refused r = refuses (edge_refusal n i e) (passing-refused c.edges (edge-stops n i left-next r))
+      pub checking-refused : (r : Refusal) → number_of r ≡ edge_refusal n i e → Replies (number_of r)
+      checking-refused r x =
+          let above = number-above r in
+          rw x
+          (refuses (edge_refusal n i e)
+          (passing-refused c.edges (edge-stops n i left-next (omega arith))))
 
-      pub checking-next : edge_refusal n i e ≤ 0 → Checking n low high cost (i + 1)
-      checking-next r =
+      pub checking-next : 0 ≡ edge_refusal n i e → Checking n low high cost (i + 1)
+      checking-next x =
           record {
             passed = c.passed ++ (e ∷ []);
-            edges = passing-next c.edges (edge_goes n i left-next r);
+            edges = passing-next c.edges (edge_goes n i left-next (omega arith));
             within = omega arith;
           }
 

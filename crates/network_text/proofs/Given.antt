@@ -9,29 +9,31 @@ use native.Mathlib.Omega.{arith}
 use lib.ListN.{length, take}
 use lib.IntN.{ℤ}
 use borrow.Author.Tests.{le-leb, lt-leb}
+use Rattle.std.proofs.Common.{Ok, Err}
 use Rattle.base.proofs.Bools.{no_answer}
-use Rattle.base.specs.Answer.{Answer, refused, answer, filled, over, room_in}
-use Rattle.base.specs.Refusals.{SHORT}
+use Rattle.base.specs.Answer.{Answer, refused, answer, number_of, filled, over, room_in}
+use Rattle.base.specs.declared.refusals.Refusal.{Refusal}
+use Rattle.base.specs.declared.refusals.Refusal.TheVariants as refusal
 use Rattle.base.proofs.Answers.{given-refused, given-fits, given-short}
 use Rattle.base.proofs.Held.{Starts, held-starts}
 use Rattle.base.specs.Limits.{vertex_limit}
 use Rattle.network_text.specs.Text.{Meaning, meant, Valid, read_network, read_reply, room_for, read_given}
 use Rattle.network_text.specs.Columns.{Columns, NetworkRead, ReadInto}
 use Rattle.network_text.specs.declared.network.ReadNetwork.{ReadNetwork}
-use Rattle.network_text.specs.declared.network.ReadNetwork.TheVariants.{Read, Refused}
 use Rattle.network_text.proofs.Columns.{SomeOf}
 
-pub reply-refused : (a : Answer Meaning) (k : ℕ) {reply : ReadNetwork} → reply ≡ Refused k → reply ≡ read_reply a
-    → a ≡ refused k
+pub reply-refused : (a : Answer Meaning) (k : ℕ) → refused k ≡ read_reply a → a ≡ refused k
 unfolding read_reply
-reply-refused (refused j) k e x = let z : j ≡ k = cc in ap refused z
-reply-refused (answer m) k e x = no_answer (cc)
+reply-refused (refused j) k x = let z : j ≡ k = cc in ap refused z
+reply-refused (answer m) k x = no_answer (cc)
 
-reply-read : (a : Answer Meaning) (n r : ℕ) {reply : ReadNetwork} → reply ≡ Read n r → reply ≡ read_reply a
-    → (m : Meaning) × (a ≡ answer m) × (n ≡ m.vertices) × (r ≡ m.reserved)
+reply-read : (a : Answer Meaning) (read : ReadNetwork) → answer read ≡ read_reply a
+    → (m : Meaning) × (a ≡ answer m) × (read.vertices ≡ m.vertices) × (read.reserved ≡ m.reserved)
 unfolding read_reply
-reply-read (refused j) n r e x = no_answer (cc)
-reply-read (answer m) n r e x = (m, refl, cc, cc)
+reply-read (refused j) read x = no_answer (cc)
+reply-read (answer m) read x =
+    let e : read ≡ record { vertices = m.vertices; reserved = m.reserved } = cc in
+    (m, refl, ap (λ r. r.vertices) e, ap (λ r. r.reserved) e)
 
 -- what working columns hold that a network was read into
 pub record Stored (a : Answer Meaning) (lows highs : List ℕ) (costs : List ℤ) (n r : ℕ) : Type 0 where
@@ -46,11 +48,11 @@ pub record Stored (a : Answer Meaning) (lows highs : List ℕ) (costs : List ℤ
   pub cost : Starts (2 * n) meaning.cost costs
 
 pub stored : {a : Answer Meaning} {low₀ high₀ : List ℕ} {cost₀ : List ℤ} {lows highs : List ℕ} {costs : List ℤ}
-    {n r : ℕ} {reply : ReadNetwork} → ((m : Meaning) → a ≡ answer m → Valid m) → reply ≡ Read n r
-    → NetworkRead a low₀ high₀ cost₀ lows highs costs reply
-    → Stored a lows highs costs n r
-stored {a} {low₀} {high₀} {cost₀} {n = n} {r = r} valid q x =
-    let p = reply-read a n r q x.reply in
+    {read : ReadNetwork} → ((m : Meaning) → a ≡ answer m → Valid m)
+    → NetworkRead a low₀ high₀ cost₀ lows highs costs (Ok read)
+    → Stored a lows highs costs read.vertices read.reserved
+stored {a} {low₀} {high₀} {cost₀} {read = read} valid x =
+    let p = reply-read a read x.reply in
     let m = p.0 in
     let v = valid m p.1 in
     let e = p.2 in
@@ -74,18 +76,17 @@ stored-meant w = rw (w.low.first, w.high.first, w.cost.first, w.vertices, w.rese
 
 -- what buffers hold that the columns are copied to
 module _ (low high : List ℕ) (cost : List ℤ) where
-  refuses : (t : List ℕ) (k : ℕ) → read_given t low high cost ≡ refused k
-      → ReadInto (read_given t low high cost) low high cost low high cost (Refused k)
+  refuses : (t : List ℕ) (r : Refusal) → read_given t low high cost ≡ refused (number_of r)
+      → ReadInto (read_given t low high cost) low high cost low high cost (Err r)
   unfolding read_reply filled
-  refuses t k x = rw x (record { reply = refl; lows = refl; highs = refl; costs = refl })
+  refuses t r x = rw x (record { reply = refl; lows = refl; highs = refl; costs = refl })
 
   pub given-none : (t : List ℕ) {low₀ high₀ : List ℕ} {cost₀ : List ℤ} {lows highs : List ℕ} {costs : List ℤ}
-      {k : ℕ} {reply : ReadNetwork} → reply ≡ Refused k
-      → NetworkRead (read_network t) low₀ high₀ cost₀ lows highs costs reply
-      → ReadInto (read_given t low high cost) low high cost low high cost reply
-  given-none t {k = k} q x =
-      let none = reply-refused (read_network t) k q x.reply in
-      rw q (refuses t k (given-refused (room_for low high cost) (read_network t) k none))
+      {r : Refusal} → NetworkRead (read_network t) low₀ high₀ cost₀ lows highs costs (Err r)
+      → ReadInto (read_given t low high cost) low high cost low high cost (Err r)
+  given-none t {r = r} x =
+      let none = reply-refused (read_network t) (number_of r) x.reply in
+      refuses t r (given-refused (room_for low high cost) (read_network t) (number_of r) none)
 
   module _ (t : List ℕ) {lows highs : List ℕ} {costs : List ℤ} {n r : ℕ}
       (w : Stored (read_network t) lows highs costs n r) where
@@ -108,14 +109,15 @@ module _ (low high : List ℕ) (cost : List ℤ) where
         )
 
     pub no_room : SomeOf (λ k. k < 2 * n) low high cost
-        → ReadInto (read_given t low high cost) low high cost low high cost (Refused SHORT)
+        → ReadInto (read_given t low high cost) low high cost low high cost (Err refusal.Short)
     no_room s =
-        refuses t SHORT (given-short (room_for low high cost) (read_network t) w.meaning w.is (room-short s))
+        refuses t refusal.Short (given-short (room_for low high cost) (read_network t) w.meaning w.is (room-short s))
 
     pub given-all : Columns n low high cost → {low' high' : List ℕ} {cost' : List ℤ}
         → low' ≡ over (take (2 * n) lows) low → high' ≡ over (take (2 * n) highs) high
         → cost' ≡ over (take (2 * n) costs) cost
-        → ReadInto (read_given t low high cost) low high cost low' high' cost' (Read n r)
+        → ReadInto (read_given t low high cost) low high cost low' high' cost'
+        (Ok (record { vertices = n; reserved = r }))
     unfolding read_reply filled
     given-all c l h k =
         rw (given-fits (room_for low high cost) (read_network t) w.meaning w.is (room_fits c))

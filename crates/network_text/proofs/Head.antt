@@ -12,10 +12,10 @@ use Rattle.base.specs.Refusals.{FORM, COST}
 use Rattle.base.proofs.Answers.{then-refused, then-answer}
 use Rattle.base.proofs.Numbered.{Numbered, answered, refused-by, unless-numbered, then-meeting}
 use Rattle.frame.specs.Table.{HEAD, line_length}
-use Rattle.frame.specs.Line.{placed, is_line, fields_of, line_at, read_line}
+use Rattle.frame.specs.Line.{is_line, fields_of, line_at, read_line}
 use Rattle.frame.specs.Kinds.{head_of}
 use Rattle.frame.specs.declared.kinds.Head.{Head}
-use Rattle.network_frames.specs.Frames.{head_refusal, edge_refusal, Found, found, head_in, read_head}
+use Rattle.network_frames.specs.Frames.{head_refusal, edge_refusal, head_in, read_head}
 use Rattle.network_frames.proofs.Passed.{head_small, edge-small}
 use Rattle.network_text.specs.Text.{Meaning, Edges, finished, interrupted, next}
 use Rattle.network_text.specs.Text.{checked, meaning_of, edges_of, read_network}
@@ -48,8 +48,8 @@ edges_behind h t =
     let n = h.vertices in
     and_then (checked n 0 (edges_of (2 * n) t)) (λ es. answer (meaning_of n h.reserved es))
 
-unfoldable behind : List ℕ → Found Head → Answer Meaning
-behind t (found h first) = edges_behind h (drop first t)
+unfoldable behind : List ℕ → Head × ℕ → Answer Meaning
+behind t (h, first) = edges_behind h (drop first t)
 
 -- the head decides first
 by-head : (t : List ℕ) → read_network t ≡ and_then (read_head t) (behind t)
@@ -61,8 +61,8 @@ by-head t =
     go : let h = head_of (fields_of HEAD t) in
         let place = line_length HEAD in
         (b : Bool) (k : ℕ) → head_refusal h.vertices h.reserved ≡ k
-        → cond b (unless (head_refusal h.vertices h.reserved) (behind t (found h place))) (refused FORM)
-        ≡ and_then (and_then (cond b (answer (placed (fields_of HEAD t) place)) (refused FORM)) head_in) (behind t)
+        → cond b (unless (head_refusal h.vertices h.reserved) (behind t (h, place))) (refused FORM)
+        ≡ and_then (and_then (cond b (answer (fields_of HEAD t, place)) (refused FORM)) head_in) (behind t)
     go false k e = refl
     go true zero e = unfold head_in unless in rw e
     go true (suc k) e = unfold head_in unless in rw e
@@ -71,7 +71,7 @@ module _ (t : List ℕ) where
   pub head-refused : {k : ℕ} → refused k ≡ read_head t → read_network t ≡ refused k
   head-refused x = by-head t ∙ then-refused (read_head t) (behind t) _ (sym x)
 
-  module _ {h : Head} {first : ℕ} (x : answer (found h first) ≡ read_head t) where
-    pub edges-due : read_network t ≡ edges_behind h (drop first t)
+  module _ {p : Head × ℕ} (x : answer p ≡ read_head t) where
+    pub edges-due : read_network t ≡ edges_behind p.0 (drop p.1 t)
     unfolding behind
-    edges-due = by-head t ∙ then-answer (read_head t) (behind t) (found h first) (sym x)
+    edges-due = by-head t ∙ then-answer (read_head t) (behind t) p (sym x)

@@ -6,25 +6,26 @@ use Prim.Native.Nat.{ℕ, zero, suc, ◌+◌, ◌*◌, ◌≤◌, ◌<◌}
 use native.Mathlib.Omega.{arith}
 use lib.ListN.{length, drop, get_or, set, replicate, length-replicate, get_or-replicate}
 use lib.IntN.{ℤ}
-use Rattle.base.specs.Answer.{Answer, refused, answer, and_then, unless, over}
+use Rattle.std.proofs.Common.{Ok, Err}
+use Rattle.base.specs.Answer.{Answer, refused, answer, and_then, unless, number_of, over}
 use Rattle.base.specs.Limits.{vertex_limit}
 use Rattle.base.specs.Refusals.{FORM}
+use Rattle.base.specs.declared.refusals.Refusal.{Refusal}
 use Rattle.base.proofs.Bools.{no_answer}
 use Rattle.base.proofs.Held.{Storing, storing-none, part-next}
 use Rattle.frame.specs.Table.{EDGE}
-use Rattle.frame.specs.Line.{Placed, placed, read_line}
+use Rattle.frame.specs.Line.{read_line}
 use Rattle.frame.specs.Kinds.{edge_of}
 use Rattle.frame.specs.Frames.{frames_of}
 use Rattle.frame.specs.declared.line.Fields.{Fields}
 use Rattle.frame.specs.declared.kinds.Head.{Head}
 use Rattle.frame.specs.declared.kinds.Edge.{Edge}
 use Rattle.frame.proofs.Runs.{next-read, only-form, run-next, run-broken, run-left, run-done}
-use Rattle.network_frames.specs.Frames.{edge_refusal, found, read_head, edge_in, read_edge}
+use Rattle.network_frames.specs.Frames.{edge_refusal, read_head, edge_in, read_edge}
 use Rattle.network_frames.proofs.Passed.{HeadPassed, head_fine}
 use Rattle.network_text.specs.Text.{Meaning, Edges, next, finished, interrupted, checked, meaning_of, in_frames}
 use Rattle.network_text.specs.Text.{edges_of, read_network, read_reply}
 use Rattle.network_text.specs.Columns.{Columns, NetworkRead}
-use Rattle.network_text.specs.declared.network.ReadNetwork.TheVariants.{Read, Refused}
 use Rattle.network_text.proofs.Edges.{Passing, Goes, passing-none}
 use Rattle.network_text.proofs.Edges.{passing-end, passing-stop, passing-refused, passing-next, edge-stops}
 use Rattle.network_text.proofs.Edges.{edge_goes}
@@ -44,14 +45,14 @@ module _ (n : ℕ) (text : List ℕ) (at i : ℕ) (h : i < 2 * n) where
   row-due = sym (get_or-replicate (2 * n) i EDGE 0 h)
 
   -- the edge of a line
-  module _ {f : Fields} {behind : ℕ} (x : answer (placed f behind) ≡ read_line EDGE text at) where
-    there : left n text at i ≡ next (edge_of f) (left n text behind (i + 1))
+  module _ {l : Fields × ℕ} (x : answer l ≡ read_line EDGE text at) where
+    there : left n text at i ≡ next (edge_of l.0) (left n text l.1 (i + 1))
     unfolding in_frames
     there =
-        rw (run-next (replicate (2 * n) EDGE) text i at EDGE (omega (arith, rows-due n)) row-due f behind
-        (next-read EDGE at text f behind x))
+        rw (run-next (replicate (2 * n) EDGE) text i at EDGE (omega (arith, rows-due n)) row-due l.0 l.1
+        (next-read EDGE at text l.0 l.1 x))
 
-  broken-there : refused FORM ≡ read_line EDGE text at → left n text at i ≡ interrupted
+  broken-there : {j : ℕ} → refused j ≡ read_line EDGE text at → left n text at i ≡ interrupted
   unfolding in_frames
   broken-there x = rw (run-broken (replicate (2 * n) EDGE) text i at EDGE (omega (arith, rows-due n)) row-due x)
 
@@ -60,38 +61,37 @@ module _ (n : ℕ) (text : List ℕ) (at i : ℕ) (h : i < 2 * n) where
   edge-refused {k} x = go (read_line EDGE text at) refl x
     where
       -- by the edge's own refusal
-      own : {f : Fields} {behind : ℕ} → answer (placed f behind) ≡ read_line EDGE text at
-          → (m : ℕ) → edge_refusal n i (edge_of f) ≡ m → refused k ≡ unless m (answer (found (edge_of f) behind))
+      own : {l : Fields × ℕ} → answer l ≡ read_line EDGE text at
+          → (m : ℕ) → edge_refusal n i (edge_of l.0) ≡ m → refused k ≡ unless {M = Edge × ℕ} m (answer (edge_of l.0, l.1))
           → checked n i (left n text at i) ≡ refused k
       own q zero e y = no_answer (cc)
       own q (suc m) e y = edge-stops n i (there q) (omega arith) ∙ cc
 
-      go : (a : Answer Placed) → a ≡ read_line EDGE text at → refused k ≡ and_then a (edge_in n i)
+      go : (a : Answer (Fields × ℕ)) → a ≡ read_line EDGE text at → refused k ≡ and_then a (edge_in n i)
           → checked n i (left n text at i) ≡ refused k
-      go (refused j) q y = let z = only-form EDGE text at j q in rw (broken-there (cc)) (cc)
-      go (answer (placed f behind)) q y = own q _ refl y
+      go (refused j) q y = let z = only-form EDGE text at j q in rw (broken-there q) (cc)
+      go (answer l) q y = own q _ refl y
 
   -- an edge that is read passes, and the next one is due behind it
-  pub edge-found : {e : Edge} {behind : ℕ} → answer (found e behind) ≡ read_edge text at n i
-      → Goes n i (left n text at i) e (left n text behind (i + 1))
+  pub edge-found : {p : Edge × ℕ} → answer p ≡ read_edge text at n i
+      → Goes n i (left n text at i) p.0 (left n text p.1 (i + 1))
   unfolding read_edge edge_in and_then unless
-  edge-found {e} {behind} x = go (read_line EDGE text at) refl x
+  edge-found {p} x = go (read_line EDGE text at) refl x
     where
       -- by the edge's own refusal
-      own : {f : Fields} {place : ℕ} → answer (placed f place) ≡ read_line EDGE text at
-          → (m : ℕ) → edge_refusal n i (edge_of f) ≡ m
-          → answer (found e behind) ≡ unless m (answer (found (edge_of f) place))
-          → Goes n i (left n text at i) e (left n text behind (i + 1))
-      own {f} {place} q zero r y =
-          let u : edge_of f ≡ e = cc in
-          let v : place ≡ behind = cc in
-          rw (← u, ← v) (edge_goes n i (there q) (omega arith))
+      own : {l : Fields × ℕ} → answer l ≡ read_line EDGE text at
+          → (m : ℕ) → edge_refusal n i (edge_of l.0) ≡ m
+          → answer p ≡ unless m (answer (edge_of l.0, l.1))
+          → Goes n i (left n text at i) p.0 (left n text p.1 (i + 1))
+      own {l} q zero r y =
+          let u : p ≡ (edge_of l.0, l.1) = cc in
+          rw u (edge_goes n i (there q) (omega arith))
       own q (suc m) r y = no_answer (cc)
 
-      go : (a : Answer Placed) → a ≡ read_line EDGE text at → answer (found e behind) ≡ and_then a (edge_in n i)
-          → Goes n i (left n text at i) e (left n text behind (i + 1))
+      go : (a : Answer (Fields × ℕ)) → a ≡ read_line EDGE text at → answer p ≡ and_then a (edge_in n i)
+          → Goes n i (left n text at i) p.0 (left n text p.1 (i + 1))
       go (refused j) q y = no_answer (cc)
-      go (answer (placed f place)) q y = own q _ refl y
+      go (answer l) q y = own q _ refl y
 
 -- ── what stands behind the last edge: something, or nothing ──
 module _ (n : ℕ) (text : List ℕ) (at i : ℕ) (h : 2 * n ≤ i) where
@@ -116,9 +116,9 @@ pub record Reading (text : List ℕ) (n r : ℕ) (low₀ high₀ : List ℕ) (co
   pub highs : Storing (map (λ e. e.higher) passed) high₀ high
   pub costs : Storing (map (λ e. e.cost) passed) cost₀ cost
 
-pub reading-none : {text : List ℕ} {h : Head} {first : ℕ} {low high : List ℕ} {cost : List ℤ}
-    → answer (found h first) ≡ read_head text
-    → Reading text h.vertices h.reserved low high cost low high cost first 0
+pub reading-none : {text : List ℕ} {p : Head × ℕ} {low high : List ℕ} {cost : List ℤ}
+    → answer p ≡ read_head text
+    → Reading text p.0.vertices p.0.reserved low high cost low high cost p.1 0
 unfolding edges_of
 reading-none {text} x =
     record {
@@ -149,11 +149,12 @@ module _ {text : List ℕ} {n r : ℕ} {low₀ high₀ : List ℕ} {cost₀ : Li
     pub reading-refused : {k : ℕ} → refused k ≡ read_edge text at n i → read_network text ≡ refused k
     reading-refused x = passing-refused w.edges (edge-refused n text at i l x)
 
-    pub reading-next : {e : Edge} {behind : ℕ} → answer (found e behind) ≡ read_edge text at n i
+    pub reading-next : {p : Edge × ℕ} → answer p ≡ read_edge text at n i
         → Columns vertex_limit low₀ high₀ cost₀
-        → Reading text n r low₀ high₀ cost₀ (set low i e.lower) (set high i e.higher) (set cost i e.cost)
-        behind (i + 1)
-    reading-next {e} x k =
+        → Reading text n r low₀ high₀ cost₀ (set low i p.0.lower) (set high i p.0.higher) (set cost i p.0.cost)
+        p.1 (i + 1)
+    reading-next {p} x k =
+        let e = p.0 in
         let m = w.edges.count in
         let few = w.head.few in
         record {
@@ -186,14 +187,14 @@ module _ {text : List ℕ} {n r : ℕ} {low₀ high₀ : List ℕ} {cost₀ : Li
 
 -- ── what a reader into columns replies, by its answer ──
 module _ {a : Answer Meaning} {low₀ high₀ : List ℕ} {cost₀ : List ℤ} {low high : List ℕ} {cost : List ℤ} where
-  pub columns-refused : {k : ℕ} → a ≡ refused k → length low ≡ length low₀ → length high ≡ length high₀
-      → length cost ≡ length cost₀
-      → NetworkRead a low₀ high₀ cost₀ low high cost (Refused k)
+  pub columns-refused : {r : Refusal} → a ≡ refused (number_of r) → length low ≡ length low₀
+      → length high ≡ length high₀ → length cost ≡ length cost₀
+      → NetworkRead a low₀ high₀ cost₀ low high cost (Err r)
   unfolding read_reply
   columns-refused x l h c = rw x (record { reply = refl; lows = l; highs = h; costs = c })
 
   pub columns-read : {n r : ℕ} {m : Meaning} → a ≡ answer m → n ≡ m.vertices → r ≡ m.reserved
       → low ≡ over m.low low₀ → high ≡ over m.high high₀ → cost ≡ over m.cost cost₀
-      → NetworkRead a low₀ high₀ cost₀ low high cost (Read n r)
+      → NetworkRead a low₀ high₀ cost₀ low high cost (Ok (record { vertices = n; reserved = r }))
   unfolding read_reply
   columns-read x p q l h c = rw x (record { reply = rw (p, q); lows = l; highs = h; costs = c })

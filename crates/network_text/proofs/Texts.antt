@@ -1,14 +1,15 @@
 -- The text of a meaning in columns: when there is one, which it is, and how long.
 -- Assumes nothing.
-use mathlib.Core.Path.{◌≡◌, refl, ◌∙◌, ap}
+use mathlib.Core.Path.{◌≡◌, refl, sym, ◌∙◌, ap}
 use mathlib.Core.List.{List, [], ◌∷◌, map}
-use Prim.Native.Nat.{ℕ, zero, suc, ◌*◌, ◌≤◌, ◌<◌}
+use Prim.Native.Nat.{ℕ, zero, suc, ◌+◌, ◌*◌, ◌≤◌, ◌<◌}
 use native.Mathlib.Omega.{arith}
 use lib.ListN.{length, length-append}
 use lib.IntN.{ℤ}
 use Rattle.base.proofs.Bools.{no_answer}
-use Rattle.base.specs.Answer.{Answer, refused, answer, and_then, refusal_of}
-use Rattle.frame.specs.Table.{HEAD}
+use Rattle.base.specs.Answer.{Answer, refused, answer, and_then, number_of, refusal_of}
+use Rattle.base.specs.declared.refusals.Refusal.{Refusal}
+use Rattle.frame.specs.Table.{HEAD, EDGE, line_length}
 use Rattle.frame.specs.Line.{line_of}
 use Rattle.frame.specs.Kinds.{of_head}
 use Rattle.frame.specs.declared.kinds.Edge.{Edge}
@@ -17,7 +18,7 @@ use Rattle.network_frames.specs.Frames.{head_refusal}
 use Rattle.network_frames.proofs.Passed.{head_passed}
 use Rattle.network_text.specs.Text.{Valid, meant, Edges, interrupted, checked, meaning_of, in_columns}
 use Rattle.network_text.specs.Text.{edges_in, edges_text, network_text, network_length, write_network}
-use Rattle.base.proofs.Answers.{unless-refused, unless-next}
+use Rattle.base.proofs.Answers.{unless-refused, unless-next, number-above}
 use Rattle.network_text.proofs.Head.{checked-numbered}
 use Rattle.network_text.proofs.Whole.{all_of, AllPassed, complete, valid}
 use Rattle.network_text.proofs.Writing.{length-text}
@@ -73,6 +74,13 @@ module _ (n r : ℕ) (low high : List ℕ) (cost : List ℤ) where
   unfolding write_network
   head-turned-down h = unless-refused (head_refusal n r) _ h
 
+  -- the edges that pass are those of the columns
+  pub record Whole : Type 0 where
+    pub text_is : write_network (meant n r low high cost) ≡ answer (network_text n r (edges_in 0 low high cost))
+    pub long : length (network_text n r (edges_in 0 low high cost)) ≡ network_length (2 * n)
+    pub sound : Valid (meant n r low high cost)
+    pub passed : AllPassed n 0 (edges_in 0 low high cost)
+
   module _ (h : head_refusal n r ≤ 0) where
     edges-decide : write_network (meant n r low high cost)
         ≡ and_then (checked n 0 edges) (λ es. answer (network_text n r es))
@@ -89,13 +97,6 @@ module _ (n r : ℕ) (low high : List ℕ) (cost : List ℤ) where
         go (refused k) p = refl
         go (answer es) p = absurd (omega arith)
 
-    -- the edges that pass are those of the columns
-    pub record Whole : Type 0 where
-      pub text_is : write_network (meant n r low high cost) ≡ answer (network_text n r (edges_in 0 low high cost))
-      pub long : length (network_text n r (edges_in 0 low high cost)) ≡ network_length (2 * n)
-      pub sound : Valid (meant n r low high cost)
-      pub passed : AllPassed n 0 (edges_in 0 low high cost)
-
     pub whole : refusal_of (checked n 0 edges) ≤ 0 → Whole
     unfolding refusal_of and_then meaning_of
     whole p = go (checked n 0 edges) refl p
@@ -111,3 +112,23 @@ module _ (n r : ℕ) (low high : List ℕ) (cost : List ℤ) where
               sound = rw (f.lows, f.highs, f.costs) at (valid n r es (head_passed n r h) c.passed f.count);
               passed = rw f.edges at c.passed;
             }
+
+  -- so it is by the tests of the head and of the edges: refused where the edges are, and written where both are passed
+  pub edges-refused : refusal_of {M = Unit} (answer tt) ≡ head_refusal n r → (k : Refusal)
+      → refusal_of {M = Unit} (refused (number_of k)) ≡ refusal_of (checked n 0 edges)
+      → write_network (meant n r low high cost) ≡ refused (number_of k)
+  unfolding refusal_of
+  edges-refused h k x =
+      let above = number-above k in
+      rw x (edges-turned-down (omega arith) (omega arith))
+
+  pub tested : refusal_of {M = Unit} (answer tt) ≡ head_refusal n r
+      → refusal_of {M = Unit} (answer tt) ≡ refusal_of (checked n 0 edges) → Whole
+  unfolding refusal_of
+  tested h p = whole (omega arith) (omega arith)
+
+  -- and the text has the length that its lines come to
+  pub measured : Whole → {head edge : ℕ} → head ≡ line_length HEAD → edge ≡ line_length EDGE
+      → head + 2 * n * edge ≡ length (network_text n r (edges_in 0 low high cost))
+  unfolding network_length
+  measured w h e = rw (h, e) (sym w.long)

@@ -19,8 +19,8 @@ use Rattle.frame.specs.declared.line.Fields.{Fields}
 use Rattle.frame.specs.declared.kinds.Edge.{Edge}
 use Rattle.frame.proofs.Lines.{length-line}
 use Rattle.frame.proofs.Whole.{length-lines, text-replicate}
-use Rattle.base.proofs.Writing.{Written, written_none, written_all, written-size}
-use Rattle.frame.proofs.Writing.{line-within, line-room, line-more}
+use Rattle.base.proofs.Writing.{Written, written_none, written_all}
+use Rattle.frame.proofs.Writing.{line-room, line-more}
 use Rattle.network_text.specs.Text.{edges_in, edges_text, network_text}
 use Rattle.network_text.specs.Columns.{edge_at, Edged}
 
@@ -68,9 +68,6 @@ module _ {k : ℕ} {low high : List ℕ} {cost : List ℤ} {old : List ℕ} (x :
       )
 
   module _ (i : ℕ) {out : List ℕ} {at : ℕ} (w : Written whole (rest i) old out at) where
-    pub writing-within : at ≤ length out
-    writing-within = omega (arith, written-size _ _ _ _ _ w, w.place, w.room)
-
     pub writing-all : k ≤ i → out ≡ over whole old
     unfolding edges_text edges_in lines_of
     writing-all h = (written_all _ _ _ _ _ w (rw (drop_of_length-le low {i = i} (omega (arith, x.low_count))))).1
@@ -78,9 +75,6 @@ module _ {k : ℕ} {low high : List ℕ} {cost : List ℤ} {old : List ℕ} (x :
     module _ (h : i < k) where
       line-left : Written whole (line_of EDGE (of_edge (edge_at low high cost i)) ++ rest (i + 1)) old out at
       line-left = rw (rest-next i h) at w
-
-      pub writing-ends : at + line_length EDGE ≤ length old
-      writing-ends = line-within _ _ _ _ _ EDGE _ line-left
 
       pub writing-room : line_length EDGE ≤ length (take (length out - at) (drop at out))
       writing-room = line-room _ _ _ _ _ EDGE _ line-left

@@ -1,7 +1,8 @@
 -- What the functions over columns are asked, and what they leave in the columns.
-use Rattle.std.specs.Prelude.{◌≡◌, true, List, ℕ, ◌*◌, ◌≤◌, ◌<◌, length, get_or, ℤ, pos}
-use Rattle.base.specs.Answer.{Answer, filled, Held}
+use Rattle.std.specs.Prelude.{◌≡◌, true, List, ℕ, ◌*◌, ◌≤◌, ◌<◌, length, get_or, ℤ, pos, Result}
+use Rattle.base.specs.Answer.{Answer, told, filled, Held}
 use Rattle.base.specs.Limits.{vertex_limit, cost_ok}
+use Rattle.base.specs.declared.refusals.Refusal.{Refusal}
 use Rattle.frame.specs.Table.{EDGE, line_length}
 use Rattle.frame.specs.declared.kinds.Edge.{Edge}
 use Rattle.network_text.specs.Text.{Meaning, read_reply}
@@ -16,16 +17,16 @@ pub record Columns (n : ℕ) (low high : List ℕ) (cost : List ℤ) : Type 0 wh
 
 -- what reading a network text into buffers replies, and what they hold: all three their parts of the meaning, or none
 pub record ReadInto (a : Answer Meaning) (low₀ high₀ : List ℕ) (cost₀ : List ℤ) (low high : List ℕ) (cost : List ℤ)
-    (r : ReadNetwork) : Type 0 where
-  pub reply : r ≡ read_reply a
+    (r : Result ReadNetwork Refusal) : Type 0 where
+  pub reply : told r ≡ read_reply a
   pub lows : low ≡ filled (λ m. m.low) a low₀
   pub highs : high ≡ filled (λ m. m.high) a high₀
   pub costs : cost ≡ filled (λ m. m.cost) a cost₀
 
 -- what reading a network text into working columns replies, and what the columns hold
 pub record NetworkRead (a : Answer Meaning) (low₀ high₀ : List ℕ) (cost₀ : List ℤ) (low high : List ℕ) (cost : List ℤ)
-    (r : ReadNetwork) : Type 0 where
-  pub reply : r ≡ read_reply a
+    (r : Result ReadNetwork Refusal) : Type 0 where
+  pub reply : told r ≡ read_reply a
   pub lows : Held (λ m. m.low) a low₀ low
   pub highs : Held (λ m. m.high) a high₀ high
   pub costs : Held (λ m. m.cost) a cost₀ cost

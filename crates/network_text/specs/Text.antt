@@ -11,7 +11,6 @@ use Rattle.frame.specs.Frames.{Frames, done, broken, frame, frames_of, lines_of}
 use Rattle.frame.specs.declared.kinds.Edge.{Edge}
 use Rattle.network_frames.specs.Frames.{head_refusal, edge_refusal}
 use Rattle.network_text.specs.declared.network.ReadNetwork.{ReadNetwork}
-use Rattle.network_text.specs.declared.network.ReadNetwork.TheVariants.{Read, Refused}
 
 -- the meaning of a network text: how many vertices, the reserved edge, and each edge's ends and cost, by its number
 pub record Meaning : Type 0 where
@@ -77,9 +76,9 @@ read_network t =
     (refused FORM)
 
 -- the reply: what the head says, or the refusal
-unfoldable pub read_reply : Answer Meaning → ReadNetwork
-read_reply (refused k) = Refused k
-read_reply (answer m) = Read m.vertices m.reserved
+unfoldable pub read_reply : Answer Meaning → Answer ReadNetwork
+read_reply (refused k) = refused k
+read_reply (answer m) = answer (record { vertices = m.vertices; reserved = m.reserved })
 
 -- whether three columns have room for a meaning
 unfoldable pub room_for : List ℕ → List ℕ → List ℤ → Meaning → Bool

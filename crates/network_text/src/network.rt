@@ -1,57 +1,59 @@
 // Network texts: read into columns, and written from them.
 ghost use Rattle.std.specs.Prelude.{◌≡◌, ◌*◌, ◌≤◌, length};
-ghost use Rattle.base.specs.Answer.{over, reply_of, after, refusal_of};
+ghost use Rattle.base.specs.Answer.{told, over, reply_of, after, refusal_of};
 ghost use Rattle.base.specs.Limits.{vertex_limit};
 ghost use Rattle.network_text.specs.Text.{checked, read_network, read_given, in_columns, edges_in, meant, Valid};
 ghost use Rattle.network_text.specs.Text.{edges_text, network_text, network_length, write_network};
 ghost use Rattle.network_text.specs.Columns.{Columns, NetworkRead, ReadInto, EdgeThere, edge_at, Edged};
 
-use base::{EDGE_LIMIT, FORM, Reply, SHORT, copy, copy_costs};
-use frame::{EDGE, Edge, HEAD, Head, length_of, put_line};
-use network_frames::{ReadEdge, ReadHead, edge_refusal, head_refusal, read_edge, read_head};
+use base::{EDGE_LIMIT, Refusal, copy};
+use frame::{Edge, Head, Kind, length_of, put_line};
+use network_frames::{check_edge, check_head, read_edge, read_head};
 
-// What reading a network text answers: what its head says, or a refusal's number. Its edges go into columns.
-#[derive(Clone, Copy)]
-pub enum ReadNetwork {
-    Read { vertices: usize, reserved: usize },
-    Refused(u8),
+// What the head of a network text says. Its edges are read into columns.
+#[derive(Clone, Copy, Debug, PartialEq, Eq)]
+pub struct ReadNetwork {
+    pub vertices: usize,
+    pub reserved: usize,
 }
 
 // Reads a network text into columns that have room for any network. After a refusal they may hold anything.
-fn read_columns(text: &[u8], low: &mut [u16], high: &mut [u16], cost: &mut [i64]) -> ReadNetwork
+fn read_columns(
+    text: &[u8],
+    low: &mut [u16],
+    high: &mut [u16],
+    cost: &mut [i64],
+) -> Result<ReadNetwork, Refusal>
     requires { Columns vertex_limit low.old high.old cost.old }
     ensures { NetworkRead (read_network text.now)
         low.old high.old cost.old
         low.new high.new cost.new result }
 {
-    let start = read_head(text);
-    let ReadHead::Read(head, first) = start else {
-        return ReadNetwork::Refused(start.refusal());
-    };
+    let (head, first) = read_head(text)?;
     let vertices = head.vertices as usize;
     let reserved = head.reserved as usize;
     let mut at = first;
-    let mut i = 0;
-    while i < 2 * vertices {
-        let read = read_edge(text, at, vertices, i);
-        let ReadEdge::Read(edge, next) = read else {
-            return ReadNetwork::Refused(read.refusal());
-        };
+    for i in 0..2 * vertices {
+        let (edge, next) = read_edge(text, at, vertices, i)?;
         low[i] = edge.lower as u16;
         high[i] = edge.higher as u16;
-        let c = edge.cost;
-        cost[i] = c;
+        cost[i] = edge.cost;
         at = next;
-        i += 1;
     }
     if at < text.len() {
-        return ReadNetwork::Refused(FORM);
+        return Err(Refusal::Form);
     }
-    ReadNetwork::Read { vertices, reserved }
+    Ok(ReadNetwork { vertices, reserved })
 }
 
-// Reads a network text into buffers: the ends and the costs of its edges, by their numbers.
-pub fn read_network(text: &[u8], low: &mut [u16], high: &mut [u16], cost: &mut [i64]) -> ReadNetwork
+// Reads a network text into buffers, which are apart as C lends them: the ends and the costs of its edges, by their
+// numbers.
+pub fn read_network(
+    text: &[u8],
+    low: &mut [u16],
+    high: &mut [u16],
+    cost: &mut [i64],
+) -> Result<ReadNetwork, Refusal>
     ensures { ReadInto (read_given text.now low.old high.old cost.old)
         low.old high.old cost.old
         low.new high.new cost.new result }
@@ -59,22 +61,15 @@ pub fn read_network(text: &[u8], low: &mut [u16], high: &mut [u16], cost: &mut [
     let mut lows = [0u16; EDGE_LIMIT];
     let mut highs = [0u16; EDGE_LIMIT];
     let mut costs = [0i64; EDGE_LIMIT];
-    let read = read_columns(text, &mut lows, &mut highs, &mut costs);
-    let ReadNetwork::Read {
-        vertices,
-        reserved: _,
-    } = read
-    else {
-        return read;
-    };
-    let edges = 2 * vertices;
+    let read = read_columns(text, &mut lows, &mut highs, &mut costs)?;
+    let edges = 2 * read.vertices;
     if low.len() < edges || high.len() < edges || cost.len() < edges {
-        return ReadNetwork::Refused(SHORT);
+        return Err(Refusal::Short);
     }
     copy(&lows, edges, low);
     copy(&highs, edges, high);
-    copy_costs(&costs, edges, cost);
-    read
+    copy(&costs, edges, cost);
+    Ok(read)
 }
 
 // The edge at a place of columns.
@@ -82,37 +77,32 @@ fn edge_at(low: &[u16], high: &[u16], cost: &[i64], place: usize) -> Edge
     requires { EdgeThere low.now high.now cost.now place }
     ensures { result ≡ edge_at low.now high.now cost.now place }
 {
-    let c = cost[place];
     Edge {
         number: place as u64,
         lower: low[place] as u64,
         higher: high[place] as u64,
-        cost: c,
+        cost: cost[place],
     }
 }
 
-// The first refusal of the edges of columns, or 0.
-fn check_edges(vertices: usize, low: &[u16], high: &[u16], cost: &[i64]) -> u8
+// Refuses the edges of columns for the first that is missing or is no edge of a network with so many vertices, and
+// for any that are left over.
+fn check_edges(vertices: usize, low: &[u16], high: &[u16], cost: &[i64]) -> Result<(), Refusal>
     requires { vertices ≤ vertex_limit }
-    ensures { result ≡ refusal_of (checked vertices 0
+    ensures { refusal_of (told result) ≡ refusal_of (checked vertices 0
         (in_columns (2 * vertices) 0 low.now high.now cost.now)) }
 {
     let edges = 2 * vertices;
-    let mut i = 0;
-    while i < edges {
+    for i in 0..edges {
         if low.len() <= i || high.len() <= i || cost.len() <= i {
-            return FORM;
+            return Err(Refusal::Form);
         }
-        let refusal = edge_refusal(vertices, i, edge_at(low, high, cost, i));
-        if 0 < refusal {
-            return refusal;
-        }
-        i += 1;
+        check_edge(vertices, i, edge_at(low, high, cost, i))?;
     }
     if edges < low.len() || edges < high.len() || edges < cost.len() {
-        return FORM;
+        return Err(Refusal::Form);
     }
-    0
+    Ok(())
 }
 
 // Writes the frames of the edges of columns to the start of `out`, each directly behind the one before it.
@@ -122,11 +112,9 @@ fn put_edges(low: &[u16], high: &[u16], cost: &[i64], edges: usize, out: &mut [u
         over (edges_text (edges_in 0 low.now high.now cost.now)) out.old }
 {
     let mut at = 0;
-    let mut place = 0;
-    while place < edges {
+    for place in 0..edges {
         let edge = edge_at(low, high, cost, place);
-        at += put_line(&mut out[at..], EDGE, edge.fields());
-        place += 1;
+        at += put_line(&mut out[at..], Kind::Edge, edge.fields());
     }
 }
 
@@ -149,7 +137,7 @@ fn put_network(
         vertices: vertices as u64,
         reserved: reserved as u64,
     };
-    let at = put_line(text, HEAD, head.fields());
+    let at = put_line(text, Kind::Head, head.fields());
     put_edges(low, high, cost, 2 * vertices, &mut text[at..]);
 }
 
@@ -161,26 +149,20 @@ pub fn write_network(
     high: &[u16],
     cost: &[i64],
     text: &mut [u8],
-) -> Reply
-    ensures { (result ≡ reply_of
+) -> Result<usize, Refusal>
+    ensures { (told result ≡ reply_of
         (write_network (meant vertices reserved low.now high.now cost.now))
         text.old) ×
         (text.new ≡ after
         (write_network (meant vertices reserved low.now high.now cost.now))
         text.old) }
 {
-    let refusal = head_refusal(vertices, reserved);
-    if 0 < refusal {
-        return Reply::Refused(refusal);
-    }
-    let refusal = check_edges(vertices, low, high, cost);
-    if 0 < refusal {
-        return Reply::Refused(refusal);
-    }
-    let length = length_of(HEAD) + 2 * vertices * length_of(EDGE);
+    check_head(vertices, reserved)?;
+    check_edges(vertices, low, high, cost)?;
+    let length = length_of(Kind::Head) + 2 * vertices * length_of(Kind::Edge);
     if text.len() < length {
-        return Reply::Refused(SHORT);
+        return Err(Refusal::Short);
     }
     put_network(vertices, reserved, low, high, cost, text);
-    Reply::Done(length)
+    Ok(length)
 }

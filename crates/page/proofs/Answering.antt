@@ -14,11 +14,14 @@ use Rattle.graph.specs.declared.Network.{Network}
 use Rattle.kept_text.specs.Text.{is_kept, kept_edges}
 use Rattle.list_text.specs.Text.{read_list}
 use Rattle.list_text.proofs.Listed.{list-rising}
-use Rattle.loading.specs.ListLoading.{listed_marks, load_list}
+use Rattle.loading.specs.Known.{Known}
+use Rattle.loading.specs.ListLoading.{listed_marks, load_list, loaded_list_of}
 use Rattle.loading.specs.Loading.{state_of, network_of, load_network}
-use Rattle.loading.proofs.ListReading.{list-found}
+use Rattle.loading.specs.declared.list.LoadedList.{LoadedList}
+use Rattle.loading.proofs.ListReading.{list-found, list-known, list-answered, list-refusal}
 use Rattle.loading.proofs.Reading.{loaded-read, loaded-known}
-use Rattle.page.specs.Page.{page_of, page_text}
+use Rattle.page.specs.Page.{page_of, page_length, page_text}
+use Rattle.page.proofs.Pages.{kept-below, kept-few, length-page}
 
 -- listed edges, which rise, are found again in their marks
 pub listed-edges : (n : ℕ) (es : List ℕ) → Rising 0 n es → n ≤ edge_limit → kept_edges n (listed_marks es) ≡ es
@@ -56,17 +59,39 @@ page-loaded t l = go (load_network t) refl
     go (answer g) q = one g q (read_list g.vertices l) refl
 
 module _ (t l : List ℕ) where
-  pub page-refused : (k : ℕ) → load_list t l ≡ refused k → page_text t l ≡ refused k
+  page-refused : (k : ℕ) → load_list t l ≡ refused k → page_text t l ≡ refused k
   unfolding and_then
   page-refused k e = page-loaded t l ∙ rw e
 
-  pub page-answered : (g : Network) (K : List Bool) → load_list t l ≡ answer (g, K)
+  page-answered : (g : Network) (K : List Bool) → load_list t l ≡ answer (g, K)
       → page_text t l ≡ answer (page_of g (kept_edges g.edges K))
   unfolding and_then
   page-answered g K e = page-loaded t l ∙ rw e
 
-  -- there is a mark for each edge that a network has room for
-  pub marks-long : (g : Network) (K : List Bool) → load_list t l ≡ answer (g, K) → length K ≡ edge_limit
-  marks-long g K e =
-      let w = list-found t l g K e in
-      ap length w.marks ∙ unfold listed_marks in tabulate-length edge_limit (λ i. among i w.edges)
+-- ── a list that was loaded ──
+
+-- its network is known, there is a mark for each edge that a network has room for, and its page is that of the marked
+-- edges
+pub record Loads (t l : List ℕ) (x : LoadedList) : Type 0 where
+  pub known : Known x.network
+  pub marks : length x.listed ≡ edge_limit
+  pub page : page_text t l ≡ answer (page_of x.network (kept_edges x.network.edges x.listed))
+  pub long : length (page_of x.network (kept_edges x.network.edges x.listed))
+      ≡ page_length (length (kept_edges x.network.edges x.listed))
+
+pub loads : (t l : List ℕ) {x : LoadedList} → answer x ≡ loaded_list_of (load_list t l) → Loads t l x
+loads t l {x} e =
+    let K = x.listed in
+    let is = list-answered (load_list t l) e in
+    let found = list-found t l x.network K is in
+    let known = list-known t l x.network K is in
+    record {
+      known = known;
+      marks = ap length found.marks ∙ unfold listed_marks in tabulate-length edge_limit (λ i. among i found.edges);
+      page = page-answered t l x.network K is;
+      long = length-page known _ (kept-below x.network K) (kept-few known K);
+    }
+
+-- a network or a list that was refused
+pub loading-refused : (t l : List ℕ) {k : ℕ} → refused k ≡ loaded_list_of (load_list t l) → page_text t l ≡ refused k
+loading-refused t l {k} e = page-refused t l k (list-refusal (load_list t l) e)

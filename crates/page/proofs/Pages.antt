@@ -1,39 +1,54 @@
 -- Pages of a known network: the lines of its edges, how long a page is, and the sum on its last line.
 use mathlib.Core.Path.{◌≡◌, refl, sym, ◌∙◌, ap}
-use mathlib.Core.Bool.{Bool, true}
+use mathlib.Core.Bool.{Bool, true, false}
 use mathlib.Core.List.{List, [], ◌∷◌, ◌++◌}
 use Prim.Native.Nat.{ℕ, ◌+◌, ◌*◌, ◌-◌, ◌≤◌, ◌<◌}
 use native.Mathlib.Omega.{arith}
 use native.Mathlib.Nat.{mul-le-mul_right}
 use lib.ListN.{length, length-append}
-use lib.IntN.{nat_abs, pos, ◌+ℤ◌, +ℤ_idr}
+use lib.IntN.{ℤ, nat_abs, pos, ◌+ℤ◌, +ℤ_idr}
+use mir.Syntax.{w64}
+use mir.Val.{to_z, of_z}
 use Rattle.base.specs.Answer.{over}
 use Rattle.base.specs.Columns.{at}
 use Rattle.base.specs.Fold.{pick, sumℤ}
 use Rattle.base.specs.Limits.{edge_limit, cost_limit}
 use Rattle.base.specs.Words.{AllBelow}
-use Rattle.base.proofs.Integers.{sumℤ-size}
-use Rattle.base.proofs.Picks.{rising-below, pick-kept, pick-rises, fold-picked}
+use Rattle.base.proofs.Integers.{sumℤ-size, read_back}
+use Rattle.base.proofs.Picks.{rising-below, pick-kept, pick_other, pick-rises, fold-picked}
 use Rattle.base.proofs.Sums.{sum_bound}
 use Rattle.base.proofs.Words.{below_at}
-use Rattle.base.proofs.Writing.{Written, written_last, written-front}
+use Rattle.base.proofs.Writing.{Written, written_last, written-size, written-front}
+use Rattle.costs.proofs.Totals.{kept_small}
 use Rattle.decimal.specs.BaseTen.{fits}
 use Rattle.graph.specs.Network.{low_end, high_end, cost_of, cost_over, kept_cost}
 use Rattle.graph.specs.declared.Network.{Network}
 use Rattle.kept_text.specs.Text.{is_kept, kept_edges}
 use Rattle.kept_text.proofs.Texts.{few-kept}
 use Rattle.loading.specs.Known.{Known}
+use Rattle.loading.proofs.Reading.{known-light}
 use Rattle.page.specs.Page.{cost_width, page_line, edge_line, edge_lines, sum_line, cost_sum, page_of, page_length}
 use Rattle.page.proofs.Printing.{cost-fits, length-line, length-sum}
 
 -- ── the lines of edges ──
 
 -- the lines that are left, where the edge at the place is listed
-pub line_kept : (g : Network) (p : ℕ → Bool) (n k : ℕ) → k < n → p k ≡ true
+line_kept : (g : Network) (p : ℕ → Bool) (n k : ℕ) → k < n → p k ≡ true
     → edge_lines g (pick (n - k) k p)
     ≡ edge_line k (low_end g k) (high_end g k) (cost_of g k) ++ edge_lines g (pick (n - (k + 1)) (k + 1) p)
 unfolding edge_lines
 line_kept g p n k h t = ap (edge_lines g) (pick-kept p n k h t)
+
+-- the line of a listed edge is left to write, and an edge that isn't listed has none
+module _ (g : Network) (p : ℕ → Bool) (n k : ℕ) {whole old out : List ℕ} {at : ℕ}
+    (w : Written whole (edge_lines g (pick (n - k) k p)) old out at) (h : k < n) where
+  pub line-left : p k ≡ true
+      → Written whole
+      (edge_line k (low_end g k) (high_end g k) (cost_of g k) ++ edge_lines g (pick (n - (k + 1)) (k + 1) p)) old out at
+  line-left t = rw (line_kept g p n k h t) at w
+
+  pub line-passed : p k ≡ false → Written whole (edge_lines g (pick (n - (k + 1)) (k + 1) p)) old out at
+  line-passed t = rw (pick_other p n k h t) at w
 
 module _ {g : Network} (k : Known g) where
   module _ (e : ℕ) (h : e < g.edges) where
@@ -86,6 +101,12 @@ pub sum_kept : (g : Network) (K : List Bool) → cost_sum g (kept_edges g.edges 
 unfolding cost_sum cost_over kept_edges
 sum_kept g K = sym (fold-picked ◌+ℤ◌ (pos 0) +ℤ_idr (is_kept K) (cost_of g) g.edges)
 
+-- and it is read from its bits as it is
+pub sum-read : {g : Network} → Known g → (K : List Bool) {sum : ℤ} → sum ≡ kept_cost g K
+    → to_z w64 (of_z w64 sum) ≡ cost_sum g (kept_edges g.edges K)
+sum-read {g} k K {sum} e =
+    read_back sum (omega (arith, ap nat_abs e, kept_small g (known-light k) K)) ∙ e ∙ sym (sum_kept g K)
+
 -- the marked edges are edges of the network
 pub kept-below : (g : Network) (K : List Bool) → AllBelow g.edges (kept_edges g.edges K)
 unfolding kept_edges
@@ -103,10 +124,13 @@ unfolding page_of
 lines_fit g es room h = omega (arith, length-append (edge_lines g es) (sum_line (cost_sum g es)))
 
 -- behind the lines of the edges the last line is left to write
-pub sum_left : (g : Network) (es old out : List ℕ) (at : ℕ) → at ≡ length (edge_lines g es)
-    → out ≡ over (edge_lines g es) old → length (page_of g es) ≤ length old
-    → Written (page_of g es) (sum_line (cost_sum g es) ++ []) old out at
-unfolding page_of
-sum_left g es old out at n e h =
-    written_last _ (sum_line (cost_sum g es)) old out at
-    (written-front (edge_lines g es) (sum_line (cost_sum g es)) old out at n e h)
+module _ (g : Network) (es old out : List ℕ) (at : ℕ) (n : at ≡ length (edge_lines g es))
+    (e : out ≡ over (edge_lines g es) old) (h : length (page_of g es) ≤ length old) where
+  pub sum_left : Written (page_of g es) (sum_line (cost_sum g es) ++ []) old out at
+  unfolding page_of
+  sum_left =
+      written_last _ (sum_line (cost_sum g es)) old out at
+      (written-front (edge_lines g es) (sum_line (cost_sum g es)) old out at n e h)
+
+  pub sum-place : at ≤ length out
+  sum-place = let w = sum_left in omega (arith, written-size _ _ _ _ _ w, w.place, w.room)

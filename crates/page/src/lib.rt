@@ -4,12 +4,12 @@
 mod lines;
 
 ghost use Rattle.std.specs.Prelude.{◌≡◌};
-ghost use Rattle.base.specs.Answer.{over, reply_of, after};
+ghost use Rattle.base.specs.Answer.{told, over, reply_of, after};
 ghost use Rattle.kept_text.specs.Text.{kept_edges};
 ghost use Rattle.page.specs.Page.{page_of, page_text};
 ghost use Rattle.page.specs.Room.{PageRoom};
 
-use base::{EDGE_LIMIT, Reply, SHORT};
+use base::{EDGE_LIMIT, Refusal};
 use costs::kept_cost;
 use graph::{Kept, Network};
 use lines::{page_length, put_lines, put_sum};
@@ -28,23 +28,17 @@ fn put_page(network: Network, listed: [bool; EDGE_LIMIT], page: &mut [u8])
 
 // Prints a list of edges over a network text, which must read but need not be accepted: refusals
 // 1 to 5 of the network, then 1 and 14 of the list, then 13.
-pub fn print_page(network: &[u8], list: &[u8], page: &mut [u8]) -> Reply
-    ensures reply { result ≡
+pub fn print_page(network: &[u8], list: &[u8], page: &mut [u8]) -> Result<usize, Refusal>
+    ensures reply { told result ≡
         reply_of (page_text network.now list.now) page.old }
     ensures page { page.new ≡
         after (page_text network.now list.now) page.old }
 {
-    let loaded = load_list(network, list);
-    let refusal = loaded.refusal;
-    let state = loaded.network;
-    let listed = loaded.listed;
-    if 0 < refusal {
-        return Reply::Refused(refusal);
-    }
-    let length = page_length(&listed, state.edges);
+    let loaded = load_list(network, list)?;
+    let length = page_length(&loaded.listed, loaded.network.edges);
     if page.len() < length {
-        return Reply::Refused(SHORT);
+        return Err(Refusal::Short);
     }
-    put_page(state, listed, page);
-    Reply::Done(length)
+    put_page(loaded.network, loaded.listed, page);
+    Ok(length)
 }

@@ -70,17 +70,14 @@ pub fn put_lines(network: Network, listed: [bool; EDGE_LIMIT], page: &mut [u8]) 
     ensures { (result ≡ length (edge_lines network (kept_edges network.edges listed))) ×
         (page.new ≡ over (edge_lines network (kept_edges network.edges listed)) page.old) }
 {
-    let edges = network.edges;
     let mut at = 0;
-    let mut edge = 0;
-    while edge < edges {
+    for edge in 0..network.edges {
         if listed[edge] {
             let low = network.low[edge];
             let high = network.high[edge];
             let cost = network.cost[edge];
             at += put_edge(&mut page[at..], edge, low, high, cost);
         }
-        edge += 1;
     }
     at
 }

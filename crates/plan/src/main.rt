@@ -2,11 +2,11 @@
 #![tactic(auto)]
 
 ghost use Rattle.std.specs.Prelude.{◌≡◌, ◌+◌, ◌≤◌, length, take};
-ghost use Rattle.base.specs.Answer.{filled};
+ghost use Rattle.base.specs.Answer.{told, filled};
 ghost use Rattle.base.specs.Lengths.{longest_network, longest_kept, longest_chain};
 ghost use Rattle.claim.specs.Services.{plan_text, planned_of};
 
-use base::{LONGEST_CHAIN, LONGEST_KEPT, LONGEST_NETWORK, Reply};
+use base::{LONGEST_CHAIN, LONGEST_KEPT, LONGEST_NETWORK, Refusal};
 use claim::Planned;
 use kept_text::write_refusal;
 use std::io;
@@ -21,9 +21,9 @@ const INPUT_ROOM: usize = LONGEST_NETWORK + 1;
 const LINE_ROOM: usize = 16;
 
 // Writes the line of a refusal.
-fn refuse(rt: &impl Print, number: u8) -> io::Result<()> {
+fn refuse(rt: &impl Print, refusal: Refusal) -> io::Result<()> {
     let mut line = [0u8; LINE_ROOM];
-    let Reply::Done(length) = write_refusal(number, &mut line) else {
+    let Ok(length) = write_refusal(refusal.number(), &mut line) else {
         return Ok(());
     };
     rt.write_all(&line[..length])
@@ -54,9 +54,9 @@ fn read_input(from: &mut impl Read, input: &mut [u8]) -> usize
 
 // Plans a network text into buffers that have room for the longest texts, so never 13 (the law `every-plan-fits` of
 // crate thinning).
-fn plan_roomy(network: &[u8], chain: &mut [u8], kept: &mut [u8]) -> Planned
+fn plan_roomy(network: &[u8], chain: &mut [u8], kept: &mut [u8]) -> Result<Planned, Refusal>
     requires { (longest_chain ≤ length chain.old) × (longest_kept ≤ length kept.old) }
-    ensures reply { result ≡ planned_of (plan_text network.now) }
+    ensures reply { told result ≡ planned_of (plan_text network.now) }
     ensures chain { chain.new ≡ filled (λ t. t.chain) (plan_text network.now) chain.old }
     ensures kept { kept.new
         ≡ filled (λ t. t.kept) (plan_text network.now) kept.old }
@@ -69,14 +69,11 @@ fn answer(rt: &impl Print, network: &[u8]) -> io::Result<()> {
     let mut chain = [0u8; LONGEST_CHAIN];
     let mut kept = [0u8; LONGEST_KEPT];
     match plan_roomy(network, &mut chain, &mut kept) {
-        Planned::Written {
-            chain: chain_length,
-            kept: kept_length,
-        } => {
-            rt.write_all(&chain[..chain_length])?;
-            rt.write_all(&kept[..kept_length])
+        Ok(lengths) => {
+            rt.write_all(&chain[..lengths.chain])?;
+            rt.write_all(&kept[..lengths.kept])
         }
-        Planned::Refused(number) => refuse(rt, number),
+        Err(refusal) => refuse(rt, refusal),
     }
 }
 

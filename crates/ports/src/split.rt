@@ -7,6 +7,7 @@ use super::PORT_LIMIT;
 use super::wire::plug;
 
 // Joins the far ports of two ports by an edge that goes on, and the two by one that retires.
+#[tactic(auto, unfolding(crate::specs::Splitting::rejoined, crate::specs::Splitting::relabelled))]
 fn join(
     mate: &mut [u16; PORT_LIMIT],
     edge: &mut [u16; PORT_LIMIT],

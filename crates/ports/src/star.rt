@@ -1,5 +1,5 @@
 // The four ports of a vertex, sorted by their edges, and the port of an edge.
-ghost use Rattle.std.specs.Prelude.{◌≡◌, ◌<◌};
+ghost use Rattle.std.specs.Prelude.{◌⊎◌, ◌≡◌, ◌≤◌, ◌<◌};
 ghost use Rattle.base.specs.Columns.{at};
 ghost use Rattle.ports.specs.Ports.{port_limit, vertex_of};
 ghost use Rattle.ports.specs.Stars.{Around, Trio, HasEdge};
@@ -15,59 +15,28 @@ pub struct Star {
     pub third: usize,
 }
 
+// Two ports, the one of the lower edge first.
+fn in_order(edge: &[u16; PORT_LIMIT], a: usize, b: usize) -> (usize, usize)
+    requires { (a < port_limit) × (b < port_limit) }
+    ensures order { at edge.now result.0 ≤ at edge.now result.1 }
+    ensures same { ((result.0 ≡ a) × (result.1 ≡ b)) ⊎ ((result.0 ≡ b) × (result.1 ≡ a)) }
+{
+    if edge[b] < edge[a] { (b, a) } else { (a, b) }
+}
+
 // The star of a port and three others, which are sorted.
 fn sorted(edge: &[u16; PORT_LIMIT], reserved: usize, a: usize, b: usize, c: usize) -> Star
     requires { Trio reserved a b c }
     ensures { (result.reserved ≡ reserved) × Around edge.now result }
 {
-    let edge_a = edge[a];
-    let edge_b = edge[b];
-    let edge_c = edge[c];
-    if edge_a < edge_b {
-        if edge_b < edge_c {
-            return Star {
-                reserved,
-                first: a,
-                second: b,
-                third: c,
-            };
-        }
-        if edge_a < edge_c {
-            return Star {
-                reserved,
-                first: a,
-                second: c,
-                third: b,
-            };
-        }
-        return Star {
-            reserved,
-            first: c,
-            second: a,
-            third: b,
-        };
-    }
-    if edge_a < edge_c {
-        return Star {
-            reserved,
-            first: b,
-            second: a,
-            third: c,
-        };
-    }
-    if edge_b < edge_c {
-        return Star {
-            reserved,
-            first: b,
-            second: c,
-            third: a,
-        };
-    }
+    let (low, high) = in_order(edge, a, b);
+    let (middle, third) = in_order(edge, high, c);
+    let (first, second) = in_order(edge, low, middle);
     Star {
         reserved,
-        first: c,
-        second: b,
-        third: a,
+        first,
+        second,
+        third,
     }
 }
 
@@ -89,13 +58,11 @@ pub fn port_at(edge: &[u16; PORT_LIMIT], vertex: u8, e: u16) -> usize
     requires { HasEdge edge.now vertex e }
     ensures { (vertex_of result ≡ vertex) × (at edge.now result ≡ e) }
 {
-    let start = PORTS * (vertex as usize);
-    let mut k = 0;
-    while k < PORTS {
-        if edge[start + k] == e {
-            return start + k;
+    let start = PORTS * vertex as usize;
+    for port in start..start + PORTS {
+        if edge[port] == e {
+            return port;
         }
-        k += 1;
     }
     start
 }

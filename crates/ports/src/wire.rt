@@ -8,7 +8,8 @@ use super::{PORT_LIMIT, PORTS};
 use base::VERTEX_LIMIT;
 use graph::Network;
 
-// The port where the other end of its edge is, and its edge, for each port.
+// The port where the other end of its edge is, and its edge, for each port. The definition `WiredAs` names these
+// columns.
 #[derive(Clone, Copy)]
 pub struct Ports {
     pub mate: [u16; PORT_LIMIT],
@@ -19,13 +20,11 @@ pub struct Ports {
 fn unwired() -> [u16; PORT_LIMIT]
     ensures { result ≡ unwired }
 {
-    let mut mate = [0u16; PORT_LIMIT];
-    let mut port = 0;
-    while port < PORT_LIMIT {
-        mate[port] = port as u16;
-        port += 1;
+    let mut mates = [0; PORT_LIMIT];
+    for (port, mate) in mates.iter_mut().enumerate() {
+        *mate = port as u16;
     }
-    mate
+    mates
 }
 
 // The next port of a vertex, of whose ports so many are used.
@@ -37,7 +36,7 @@ fn next_port(used: &mut [u8; VERTEX_LIMIT], vertex: u8) -> usize
 {
     let i = vertex as usize;
     let count = used[i];
-    used[i] = count + 1;
+    used[i] += 1;
     PORTS * i + count as usize
 }
 
@@ -59,16 +58,13 @@ impl Ports {
         requires { Pluggable network }
         ensures { WiredAs network result.mate result.edge }
     {
-        let edges = network.edges;
         let mut mate = unwired();
-        let mut edge = [0u16; PORT_LIMIT];
-        let mut used = [0u8; VERTEX_LIMIT];
-        let mut e = 0;
-        while e < edges {
+        let mut edge = [0; PORT_LIMIT];
+        let mut used = [0; VERTEX_LIMIT];
+        for e in 0..network.edges {
             let a = next_port(&mut used, network.low[e]);
             let b = next_port(&mut used, network.high[e]);
             plug(&mut mate, &mut edge, a, b, e as u16);
-            e += 1;
         }
         Ports { mate, edge }
     }

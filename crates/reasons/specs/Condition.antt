@@ -4,7 +4,6 @@ use Rattle.std.specs.Prelude.{Bool, true, List, ◌↔◌, ◌≡◌, ℕ, ◌*�
 use Rattle.base.specs.Answer.{refused, answer, over, reply_of, after}
 use Rattle.base.specs.Fold.{among}
 use Rattle.base.specs.Refusals.{SHORT}
-use Rattle.base.specs.declared.reply.Reply.TheVariants.{Refused, Done}
 use Rattle.departures.specs.Departures.{Departure, keeps}
 use Rattle.departures.specs.Explained.{Explained}
 use Rattle.frame.specs.Table.{COSTS, REASON, line_length}
@@ -61,11 +60,11 @@ pub record ReasonsClaim : Type 0 where
       → SameKept g.vertices g.edges kept text
   -- 13 comes exactly from a buffer that is shorter than the text, after all refusals of the check, and leaves it as it was
   pub short : (t chain text lent : List ℕ) → chain_reasons t chain ≡ answer text → length lent < length text
-      → (reply_of (chain_reasons t chain) lent ≡ Refused SHORT) × (after (chain_reasons t chain) lent ≡ lent)
+      → (reply_of (chain_reasons t chain) lent ≡ refused SHORT) × (after (chain_reasons t chain) lent ≡ lent)
   pub written : (t chain text lent : List ℕ) → chain_reasons t chain ≡ answer text → length text ≤ length lent
-      → (reply_of (chain_reasons t chain) lent ≡ Done (length text)) × (after (chain_reasons t chain) lent ≡ over text lent)
+      → (reply_of (chain_reasons t chain) lent ≡ answer (length text)) × (after (chain_reasons t chain) lent ≡ over text lent)
   pub untouched : (t chain lent : List ℕ) (k : ℕ) → chain_reasons t chain ≡ refused k
-      → (reply_of (chain_reasons t chain) lent ≡ Refused k) × (after (chain_reasons t chain) lent ≡ lent)
+      → (reply_of (chain_reasons t chain) lent ≡ refused k) × (after (chain_reasons t chain) lent ≡ lent)
 
 -- ── wrong versions that the claim, or a promise by its words, shuts out: each has a must-fail edit ──
 --

@@ -94,6 +94,18 @@ pub reasons-short : (n : ℕ) → n ≤ edge_limit → reasons_length n ≤ long
 unfolding reasons_length line_length start_of place_of bytes_of padded total
 reasons-short n h = omega arith
 
+-- as many bytes as the code measures, from the length of a line
+pub record Measured (n : ℕ) (rules steps : List ℕ) (size : ℕ) : Type 0 where
+  pub measured : size ≡ reasons_length n
+  pub counted : size ≡ length (reasons_text n rules steps)
+  pub small : size ≤ longest_reasons
+
+pub reasons-measured : (n : ℕ) (rules steps : List ℕ) → n ≤ edge_limit → {line : ℕ} → line ≡ line_length REASON
+    → Measured n rules steps (n * line)
+unfolding reasons_length
+reasons-measured n rules steps h e =
+    rw e (record { measured = refl; counted = sym (length-reasons n rules steps); small = reasons-short n h })
+
 -- ── what is owed of each line ──
 
 -- an edge, a rule of 8 bits and a step of 16 have room in their line

@@ -2,15 +2,15 @@
 #![tactic(auto)]
 
 ghost use Rattle.std.specs.Prelude.{◌≡◌, ◌≤◌, length};
-ghost use Rattle.base.specs.Answer.{answer, over, reply_of, after};
+ghost use Rattle.base.specs.Answer.{answer, told, over, reply_of, after};
 ghost use Rattle.base.specs.Limits.{edge_limit};
 ghost use Rattle.frame.specs.Table.{REASON, line_length};
 ghost use Rattle.frame.specs.Line.{line_of};
 ghost use Rattle.frame.specs.Kinds.{of_reason};
 ghost use Rattle.reasons_text.specs.Text.{reasons_text, reasons_length};
 
-use base::{EDGE_LIMIT, Reply, SHORT};
-use frame::{REASON, Reason, length_of, put_line};
+use base::{EDGE_LIMIT, Refusal};
+use frame::{Kind, Reason, length_of, put_line};
 
 // Writes the line of an edge, its rule and its step to the start of `text`, and answers its length.
 fn put_reason(edge: usize, rule: u8, step: u16, text: &mut [u8]) -> usize
@@ -23,7 +23,7 @@ fn put_reason(edge: usize, rule: u8, step: u16, text: &mut [u8]) -> usize
         rule: rule as u64,
         step: step as u64,
     };
-    put_line(text, REASON, reason.fields())
+    put_line(text, Kind::Reason, reason.fields())
 }
 
 // Writes the lines of the first edges, each with its rule and its step, to the start of `text`.
@@ -33,10 +33,8 @@ fn put_reasons(rules: &[u8; EDGE_LIMIT], steps: &[u16; EDGE_LIMIT], edges: usize
         over (reasons_text edges rules.now steps.now) text.old }
 {
     let mut at = 0;
-    let mut edge = 0;
-    while edge < edges {
+    for edge in 0..edges {
         at += put_reason(edge, rules[edge], steps[edge], &mut text[at..]);
-        edge += 1;
     }
 }
 
@@ -46,17 +44,17 @@ pub fn write_reasons(
     steps: &[u16; EDGE_LIMIT],
     edges: usize,
     text: &mut [u8],
-) -> Reply
+) -> Result<usize, Refusal>
     requires { edges ≤ edge_limit }
-    ensures { (result ≡
+    ensures { (told result ≡
         reply_of (answer (reasons_text edges rules.now steps.now)) text.old) ×
         (text.new ≡
         after (answer (reasons_text edges rules.now steps.now)) text.old) }
 {
-    let length = edges * length_of(REASON);
+    let length = edges * length_of(Kind::Reason);
     if text.len() < length {
-        return Reply::Refused(SHORT);
+        return Err(Refusal::Short);
     }
     put_reasons(rules, steps, edges, text);
-    Reply::Done(length)
+    Ok(length)
 }

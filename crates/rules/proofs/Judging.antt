@@ -3,6 +3,7 @@ use mathlib.Core.Path.{◌≡◌, refl, sym, ◌∙◌, ap}
 use mathlib.Core.Logic.{◌≢◌}
 use mathlib.Core.Bool.{Bool, true, false, cond, or-false}
 use mathlib.Core.List.{[], ◌∷◌}
+use Rattle.std.proofs.Common.{Option, Some, None}
 use Prim.Native.Nat.{ℕ}
 use lib.Dec.{eqb}
 use lib.Signed.{lt_z}
@@ -18,7 +19,6 @@ use Rattle.incidence.specs.declared.partners.Partners.{Partners}
 use Rattle.base.proofs.Bools.{no_answer, eqb_is}
 use Rattle.graph.proofs.Stars.{Star, swap-first, swap-others}
 use Rattle.graph.proofs.Partners.{first-others, second-others, third-others, among-without}
-use Rattle.rules.specs.declared.others.Others.TheVariants.{Two, None}
 use Rattle.cuts.specs.Partnered.{Partnered}
 use Rattle.rules.specs.Running.{Running}
 use Rattle.rules.specs.Others.{others_of, other_of}
@@ -35,8 +35,12 @@ pub record Named (g : Network) (v x i j : ℕ) : Type 0 where
   pub x_in : among x (partners g v) ≡ true
   pub others : without x (partners g v) ≡ i ∷ j ∷ []
 
+-- the others of a partner
+abbrev two : ℕ → ℕ → Option (ℕ × ℕ)
+two i j = Some (i, j)
+
 module _ {g : Network} {v : ℕ} (p : Partners) (t : Trio g v p.first p.second p.third) (x : ℕ) where
-  pub others-found : {i j : ℕ} → others_of p x ≡ Two i j → Named g v x i j
+  pub others-found : {i j : ℕ} → others_of p x ≡ two i j → Named g v x i j
   others-found {i} {j} h = go (eqb x p.first) (eqb x p.second) (eqb x p.third) refl refl refl h
     where
       s : Star g v p.first p.second p.third (far g v g.reserved) (far g v p.first) (far g v p.second)
@@ -45,10 +49,11 @@ module _ {g : Network} {v : ℕ} (p : Partners) (t : Trio g v p.first p.second p
 
       make : {k y z a b c : ℕ} → x ≡ k → Star g v k y z (far g v g.reserved) a b c
           → without k (partners g v) ≡ y ∷ z ∷ []
-          → among x (p.first ∷ p.second ∷ p.third ∷ []) ≡ true → Two y z ≡ Two i j → Named g v x i j
+          → among x (p.first ∷ p.second ∷ p.third ∷ []) ≡ true → two y z ≡ two i j → Named g v x i j
       make {k} {y} {z} {a} {b} {c} q s others x_in e =
-          let ey : y ≡ i = cc in
-          let ez : z ≡ j = cc in
+          let both : ◌≡◌ {A = ℕ × ℕ} (y, z) (i, j) = cc in
+          let ey : y ≡ i = ap (λ p. p.0) both in
+          let ez : z ≡ j = ap (λ p. p.1) both in
           rw (q, ← ey, ← ez)
           (record {
             u = far g v g.reserved;
@@ -61,8 +66,8 @@ module _ {g : Network} {v : ℕ} (p : Partners) (t : Trio g v p.first p.second p
           })
 
       go : (a b c : Bool) → eqb x p.first ≡ a → eqb x p.second ≡ b → eqb x p.third ≡ c
-          → cond a (Two p.second p.third)
-          (cond b (Two p.first p.third) (cond c (Two p.first p.second) None)) ≡ Two i j
+          → cond a (two p.second p.third)
+          (cond b (two p.first p.third) (cond c (two p.first p.second) None)) ≡ two i j
           → Named g v x i j
       go true b c ea eb ec h = make (eqb_is ea) s (first-others s t.listed) (unfold among in rw ea) h
       go false true c ea eb ec h =
@@ -77,8 +82,8 @@ module _ {g : Network} {v : ℕ} (p : Partners) (t : Trio g v p.first p.second p
       ap (among x) t.listed ∙ go (eqb x p.first) (eqb x p.second) (eqb x p.third) refl refl refl h
     where
       go : (a b c : Bool) → eqb x p.first ≡ a → eqb x p.second ≡ b → eqb x p.third ≡ c
-          → cond a (Two p.second p.third)
-          (cond b (Two p.first p.third) (cond c (Two p.first p.second) None)) ≡ None
+          → cond a (two p.second p.third)
+          (cond b (two p.first p.third) (cond c (two p.first p.second) None)) ≡ None
           → among x (p.first ∷ p.second ∷ p.third ∷ []) ≡ false
       go false false false i j k h = rw (i, j, k)
       go true b c i j k h = no_answer (cc)

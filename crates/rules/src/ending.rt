@@ -3,12 +3,13 @@ ghost use Rattle.std.specs.Prelude.{◌≡◌, ◌<◌};
 ghost use Rattle.graph.specs.Chain.{last_edges, end_refusal};
 ghost use Rattle.graph.specs.State.{no_marks};
 ghost use Rattle.incidence.specs.Partners.{first_three};
+ghost use Rattle.base.specs.Answer.{told, refusal_of};
 ghost use Rattle.base.specs.Limits.{edge_limit};
 ghost use Rattle.rules.specs.Running.{Last};
 ghost use Rattle.rules.specs.Endings.{chosen_ending, two_marked};
 
-use super::others::{Others, cheaper, others_than};
-use base::{EDGE_LIMIT, NOT_DEAREST};
+use super::others::{cheaper, others_than};
+use base::{EDGE_LIMIT, Refusal};
 use graph::Network;
 use incidence::{Partners, partners_at};
 
@@ -30,22 +31,20 @@ fn last_three(network: Network) -> Partners
     partners_at(network, v)
 }
 
-// Judges the ending that drops d: refusal 12, or 0.
-pub fn judge_ending(network: Network, d: usize) -> u8
+// Judges the ending that drops d: refusal 12, or none.
+pub fn judge_ending(network: Network, d: usize) -> Result<(), Refusal>
     requires { Last network }
-    ensures { result ≡ end_refusal network d }
+    ensures { refusal_of (told result) ≡ end_refusal network d }
 {
     let last = last_three(network);
-    let Others::Two(low, high) = others_than(last, d) else {
-        return NOT_DEAREST;
-    };
+    let (low, high) = others_than(last, d).ok_or(Refusal::NotDearest)?;
     if cheaper(network, d, low) {
-        return NOT_DEAREST;
+        return Err(Refusal::NotDearest);
     }
     if cheaper(network, d, high) {
-        return NOT_DEAREST;
+        return Err(Refusal::NotDearest);
     }
-    0
+    Ok(())
 }
 
 // The planner's ending drops the dearest of the last three, and of equally dear ones the highest number.

@@ -1,12 +1,13 @@
 // Judging a proposed step.
 ghost use Rattle.std.specs.Prelude.{true, ◌≡◌};
+ghost use Rattle.base.specs.Answer.{told, refusal_of};
 ghost use Rattle.graph.specs.Network.{touches};
 ghost use Rattle.graph.specs.Chain.{step_refusal};
 ghost use Rattle.rules.specs.Running.{Running, Costed};
 ghost use Rattle.rules.specs.Judgements.{names};
 
-use super::others::{Others, cheaper, cost_after, other_than, others_than};
-use base::{CHEAPER, NO_END, NO_PARTNER, NOT_ADMISSIBLE, NOT_GIVEN};
+use super::others::{cheaper, cost_after, other_than, others_than};
+use base::Refusal;
 use graph::{Network, Step};
 use incidence::partners_at;
 
@@ -21,46 +22,49 @@ fn names_third(network: Network, step: Step, third: usize) -> bool
     z == third && cost == due
 }
 
-// Judges a step at an end of the reserved edge: refusals 9 to 11 in order, then 17, or 0. What is asked for 11 and for
-// 17 is known before either is given.
-fn judge_at(network: Network, v: u8, step: Step) -> u8
+// Judges a step at an end of the reserved edge: refusals 9 to 11 in order, then 17, or none. What is asked for 11 and
+// for 17 is known before either is given.
+fn judge_at(network: Network, v: u8, step: Step) -> Result<(), Refusal>
     requires { Running network × (touches network v network.reserved ≡ true) × (step.v ≡ v) }
-    ensures { result ≡ step_refusal network step }
+    ensures { refusal_of (told result) ≡ step_refusal network step }
 {
     let x = step.x;
     let y = step.y;
     let partners = partners_at(network, v);
-    let Others::Two(x_low, x_high) = others_than(partners, x) else {
-        return NO_PARTNER;
-    };
-    let Others::Two(y_low, y_high) = others_than(partners, y) else {
-        return NO_PARTNER;
-    };
+    let (x_low, x_high) = others_than(partners, x).ok_or(Refusal::NoPartner)?;
+    let (y_low, y_high) = others_than(partners, y).ok_or(Refusal::NoPartner)?;
     if x == y {
-        return NO_PARTNER;
+        return Err(Refusal::NoPartner);
     }
     if !cuts::admissible(network, v, x, x_low, x_high) {
-        return NOT_ADMISSIBLE;
+        return Err(Refusal::NotAdmissible);
     }
     if !cuts::admissible(network, v, y, y_low, y_high) {
-        return NOT_ADMISSIBLE;
+        return Err(Refusal::NotAdmissible);
     }
     let x_cheaper = cheaper(network, x, y);
     let z_named = names_third(network, step, other_than(x_low, x_high, y));
     if x_cheaper {
-        return CHEAPER;
+        return Err(Refusal::Cheaper);
     }
     if !z_named {
-        return NOT_GIVEN;
+        return Err(Refusal::NotGiven);
     }
-    0
+    Ok(())
 }
 
-// Judges the step that names these: refusals 8 to 11 in order, then 17, or 0. It takes numbers, so that a chain's check,
-// which goes as deep as there are vertices, keeps no step in memory.
-pub fn judge_step(network: Network, v: usize, x: usize, y: usize, z: usize, cost: i64) -> u8
+// Judges the step that names these: refusals 8 to 11 in order, then 17, or none. It takes numbers, so that a chain's
+// check, which goes as deep as there are vertices, keeps no step in memory.
+pub fn judge_step(
+    network: Network,
+    v: usize,
+    x: usize,
+    y: usize,
+    z: usize,
+    cost: i64,
+) -> Result<(), Refusal>
     requires { Running network }
-    ensures { result ≡ step_refusal network (record { v = v; x = x; y = y; z = z; cost = cost }) }
+    ensures { refusal_of (told result) ≡ step_refusal network (record { v = v; x = x; y = y; z = z; cost = cost }) }
 {
     let step = Step { v, x, y, z, cost };
     let reserved = network.reserved;
@@ -72,5 +76,5 @@ pub fn judge_step(network: Network, v: usize, x: usize, y: usize, z: usize, cost
     if high as usize == v {
         return judge_at(network, high, step);
     }
-    NO_END
+    Err(Refusal::NoEnd)
 }

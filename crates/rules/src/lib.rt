@@ -10,4 +10,4 @@ mod planner;
 pub use choice::{Pair, chosen_pair, chosen_step};
 pub use ending::judge_ending;
 pub use judge::judge_step;
-pub use planner::plan_steps;
+pub use planner::{StepColumns, plan_steps};

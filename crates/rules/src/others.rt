@@ -8,27 +8,20 @@ ghost use Rattle.rules.specs.Others.{others_of, other_of};
 use graph::Network;
 use incidence::Partners;
 
-// The two of three edges that are not a given one, in rising order.
-#[derive(Clone, Copy)]
-pub enum Others {
-    Two(usize, usize),
-    None,
-}
-
-// The edges other than x, where x is one of the three.
-pub fn others_than(partners: Partners, x: usize) -> Others
+// The two of three edges that are not x, in rising order, where x is one of the three.
+pub fn others_than(partners: Partners, x: usize) -> Option<(usize, usize)>
     ensures { result ≡ others_of partners x }
 {
     if x == partners.first {
-        return Others::Two(partners.second, partners.third);
+        return Some((partners.second, partners.third));
     }
     if x == partners.second {
-        return Others::Two(partners.first, partners.third);
+        return Some((partners.first, partners.third));
     }
     if x == partners.third {
-        return Others::Two(partners.first, partners.second);
+        return Some((partners.first, partners.second));
     }
-    Others::None
+    None
 }
 
 // Of two edges the one that is not y, where y is one of them.
@@ -51,7 +44,5 @@ pub fn cost_after(network: Network, x: usize, z: usize) -> i64
     requires { Costed network x z }
     ensures { result ≡ cost_of network z -ℤ cost_of network x }
 {
-    let z_cost = network.cost[z];
-    let x_cost = network.cost[x];
-    z_cost - x_cost
+    network.cost[z] - network.cost[x]
 }

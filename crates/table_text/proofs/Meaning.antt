@@ -16,7 +16,7 @@ use Rattle.base.proofs.Answers.{cond-answered}
 use Rattle.base.proofs.Bools.{no_answer, eqb_is}
 use Rattle.base.proofs.Numbered.{Meeting, answered, refused_as, unless-meeting, cond-meeting, then-meeting}
 use Rattle.frame.specs.Table.{TABLE_HEAD, SPAN, line_length}
-use Rattle.frame.specs.Line.{Placed, placed, fields_of, read_line}
+use Rattle.frame.specs.Line.{fields_of, read_line}
 use Rattle.frame.specs.Kinds.{table_head_of, of_table_head, span_of, of_span}
 use Rattle.frame.specs.Frames.{Frames, done, broken, frame, frames_of, listed, AllFit}
 use Rattle.frame.specs.declared.line.Fields.{Fields}
@@ -27,7 +27,7 @@ use Rattle.frame.proofs.Lines.{line-back}
 use Rattle.frame.proofs.Runs.{Next, next-read, only-form}
 use Rattle.frame.proofs.Whole.{whole, fit_count}
 use Rattle.frame.proofs.Named.{table-head-back, span-back}
-use Rattle.network_frames.specs.Frames.{head_refusal, Found, found}
+use Rattle.network_frames.specs.Frames.{head_refusal}
 use Rattle.network_frames.proofs.Passed.{head_small}
 use Rattle.network_text.specs.Text.{Meaning, Valid, network_text, write_network}
 use Rattle.network_text.proofs.Whole.{AllPassed, valid}
@@ -84,26 +84,26 @@ pub record Parts (t : List ℕ) (m : Table) : Type 0 where
   pub text_is : t ≡ table_text m
 
 -- the line of a head that is read
-head-line : (t : List ℕ) {h : TableHead} {first : ℕ} → answer (found h first) ≡ read_table_head t
-    → (f : Fields) × (h ≡ table_head_of f) × Next TABLE_HEAD 0 t f first
+head-line : (t : List ℕ) {p : TableHead × ℕ} → answer p ≡ read_table_head t
+    → (f : Fields) × (p.0 ≡ table_head_of f) × Next TABLE_HEAD 0 t f p.1
 unfolding read_table_head table_head_in and_then unless
-head-line t {h} {first} x = go (read_line TABLE_HEAD t 0) refl x
+head-line t {p} x = go (read_line TABLE_HEAD t 0) refl x
   where
-    own : (f : Fields) (next j : ℕ) → answer (placed f next) ≡ read_line TABLE_HEAD t 0 → (k : ℕ)
-        → answer (found h first) ≡ unless j (unless k (answer (found (table_head_of f) next)))
-        → (f : Fields) × (h ≡ table_head_of f) × Next TABLE_HEAD 0 t f first
-    own f next zero q zero y =
-        let v : next ≡ first = cc in
-        (f, cc, rw v at (next-read TABLE_HEAD 0 t f next q))
-    own f next zero q (suc k) y = no_answer (cc)
-    own f next (suc j) q k y = no_answer (cc)
+    own : (l : Fields × ℕ) (j : ℕ) → answer l ≡ read_line TABLE_HEAD t 0 → (k : ℕ)
+        → answer p ≡ unless j (unless k (answer (table_head_of l.0, l.1)))
+        → (f : Fields) × (p.0 ≡ table_head_of f) × Next TABLE_HEAD 0 t f p.1
+    own l zero q zero y =
+        let u : p ≡ (table_head_of l.0, l.1) = cc in
+        rw u (l.0, refl, next-read TABLE_HEAD 0 t l.0 l.1 q)
+    own l zero q (suc k) y = no_answer (cc)
+    own l (suc j) q k y = no_answer (cc)
 
-    go : (a : Answer Placed) → a ≡ read_line TABLE_HEAD t 0 → answer (found h first) ≡ and_then a table_head_in
-        → (f : Fields) × (h ≡ table_head_of f) × Next TABLE_HEAD 0 t f first
+    go : (a : Answer (Fields × ℕ)) → a ≡ read_line TABLE_HEAD t 0 → answer p ≡ and_then a table_head_in
+        → (f : Fields) × (p.0 ≡ table_head_of f) × Next TABLE_HEAD 0 t f p.1
     go (refused k) q y = no_answer (cc)
-    go (answer (placed f next)) q y =
-        let e = table_head_of f in
-        own f next (head_refusal e.vertices e.reserved) q (count_refusal e.vertices e.spans) y
+    go (answer l) q y =
+        let e = table_head_of l.0 in
+        own l (head_refusal e.vertices e.reserved) q (count_refusal e.vertices e.spans) y
 
 all_back : (k : ℕ) (gs : List Fields) → AllFit (replicate k SPAN) gs → map of_span (map span_of gs) ≡ gs
 all_back zero [] x = refl
@@ -111,7 +111,13 @@ all_back zero (g ∷ gs) x = absurd x
 all_back (suc k) [] x = absurd x
 all_back (suc k) (g ∷ gs) x = rw (span-back g x.0, all_back k gs x.1)
 
-module _ (t : List ℕ) {h : TableHead} {first : ℕ} (x : answer (found h first) ≡ read_table_head t) where
+module _ (t : List ℕ) {p : TableHead × ℕ} (x : answer p ≡ read_table_head t) where
+  abbrev h : TableHead
+  h = p.0
+
+  abbrev first : ℕ
+  first = p.1
+
   abbrev frames-due : Frames
   frames-due = frames_of (replicate h.spans SPAN) (drop first t)
 
@@ -141,7 +147,7 @@ module _ (t : List ℕ) {h : TableHead} {first : ℕ} (x : answer (found h first
             sym (line-back TABLE_HEAD t next.is) ∙ rw (count, named, back, ← spelt.text_is, place);
       }
 
-  behind-head : (m : Table) → table_behind t (found h first) ≡ answer m → Parts t m
+  behind-head : (m : Table) → table_behind t p ≡ answer m → Parts t m
   unfolding table_behind and_then totalled
   behind-head m y = go (spans_in h.vertices 0 0 frames-due) refl y
     where
@@ -165,9 +171,9 @@ pub parts : (t : List ℕ) (m : Table) → read_table t ≡ answer m → Parts t
 unfolding read_table and_then
 parts t m x = go (read_table_head t) refl x
   where
-    go : (a : Answer (Found TableHead)) → a ≡ read_table_head t → and_then a (table_behind t) ≡ answer m → Parts t m
+    go : (a : Answer (TableHead × ℕ)) → a ≡ read_table_head t → and_then a (table_behind t) ≡ answer m → Parts t m
     go (refused k) q y = no_answer (cc)
-    go (answer (found h first)) q y = behind-head t q m y
+    go (answer p) q y = behind-head t q m y
 
 -- ── the edges of a table have passed ──
 passed-append : (n k : ℕ) (ds es : List Edge) → AllPassed n k ds → AllPassed n (k + length ds) es
@@ -268,14 +274,14 @@ count-of-table n k x = go (leb k (2 * n)) x
     go true x = absurd (omega arith)
     go false x = inr (inr refl)
 
-head-in-meeting : (p : Placed) → Meeting OfTable (table_head_in p)
+head-in-meeting : (p : Fields × ℕ) → Meeting OfTable (table_head_in p)
 unfolding table_head_in
-head-in-meeting (placed f next) =
+head-in-meeting (f, next) =
     let h = table_head_of f in
     unless-meeting (head_refusal h.vertices h.reserved) _
     (λ x. inl (omega arith, omega (arith, head_small h.vertices h.reserved)))
     (unless-meeting (count_refusal h.vertices h.spans) _ (count-of-table h.vertices h.spans)
-    (answered (found h next)))
+    (answered (h, next)))
 
 head-meeting : (t : List ℕ) → Meeting OfTable (read_table_head t)
 unfolding read_table_head
@@ -284,9 +290,9 @@ head-meeting t =
     (record { number = λ k e. let z = only-form TABLE_HEAD t 0 k (sym e) in inl (omega arith, omega arith) })
     head-in-meeting
 
-behind-meeting : (t : List ℕ) (f : Found TableHead) → Meeting OfTable (table_behind t f)
+behind-meeting : (t : List ℕ) (p : TableHead × ℕ) → Meeting OfTable (table_behind t p)
 unfolding table_behind
-behind-meeting t (found h first) =
+behind-meeting t (h, first) =
     then-meeting (spans_in h.vertices 0 0 (frames_of (replicate h.spans SPAN) (drop first t))) _
     (spans-meeting h.vertices 0 0 _) (totalled-meeting h.vertices h.reserved)
 

@@ -23,7 +23,6 @@ use Rattle.frame.specs.declared.kinds.Span.{Span}
 use Rattle.frame.proofs.Lines.{length-line, line-is, line-rest, fields-found}
 use Rattle.frame.proofs.Named.{span-found}
 use Rattle.frame.proofs.Whole.{frames-found, length-lines, text-replicate}
-use Rattle.network_frames.specs.Frames.{found}
 use Rattle.network_text.proofs.CostField.{cost-spelt}
 use Rattle.network_text.proofs.OneToOne.{head-unrefused}
 use Rattle.table_text.specs.Frames.{table_head_in, read_table_head}
@@ -115,7 +114,7 @@ module _ (m : Table) (f : Fine m) where
     (omega (arith, f.few, f.reserved_one), (omega (arith, f.few, f.count), (lit< tt, (lit< tt, tt)))),
   )
 
-  head_read : read_table_head (table_text m) ≡ answer (found head (line_length TABLE_HEAD))
+  head_read : read_table_head (table_text m) ≡ answer (head, line_length TABLE_HEAD)
   unfolding table_text read_table_head table_head_in read_line line_at and_then unless
   head_read =
       rw (
@@ -132,7 +131,7 @@ module _ (m : Table) (f : Fine m) where
   read_back =
       then-answer (read_table_head (table_text m)) (table_behind (table_text m)) _ head_read ∙ spans-back
     where
-      spans-back : table_behind (table_text m) (found head (line_length TABLE_HEAD)) ≡ answer m
+      spans-back : table_behind (table_text m) (head, line_length TABLE_HEAD) ≡ answer m
       spans-back =
           unfold table_behind table_text totalled and_then in
           rw (

@@ -1,6 +1,6 @@
--- Heads and spans that are not refused: what they then say. And what a caller of the readers by frame learns.
+-- Heads and spans that are not refused: what they then say.
 -- Assumes nothing.
-use mathlib.Core.Path.{◌≡◌, refl, sym, ◌∙◌, ap}
+use mathlib.Core.Path.{◌≡◌, refl}
 use mathlib.Core.Bool.{Bool, true, false, cond, ◌&&◌, ◌||◌, or-true}
 use mathlib.Core.Logic.{◌⊎◌, inl, inr}
 use mathlib.Core.List.{List}
@@ -8,25 +8,21 @@ use Prim.Native.Nat.{ℕ, zero, suc, ◌*◌, ◌≤◌, ◌<◌}
 use native.Mathlib.Omega.{arith}
 use lib.Dec.{leb, ltb, eqb}
 use borrow.Author.Tests.{ltb-true, leb-true, lt-ltb, le-leb, eq-eqb}
-use Rattle.base.specs.Answer.{Answer, refused, answer, and_then, unless, refusal_of}
+use Rattle.base.specs.Answer.{Answer, refused, answer, and_then, unless}
 use Rattle.base.specs.Limits.{cost_ok}
 use Rattle.base.specs.Refusals.{COST, ENDS, WEIGHT, TOTAL}
 use Rattle.base.proofs.Bools.{no_answer, never, eqb_is}
 use Rattle.frame.specs.Table.{TABLE_HEAD}
-use Rattle.frame.specs.Line.{Placed, placed, read_line}
+use Rattle.frame.specs.Line.{read_line}
 use Rattle.frame.specs.Kinds.{table_head_of}
+use Rattle.frame.specs.declared.line.Fields.{Fields}
 use Rattle.frame.specs.declared.kinds.TableHead.{TableHead}
 use Rattle.frame.specs.declared.kinds.Span.{Span}
-use Rattle.network_frames.specs.Frames.{head_refusal, Found, found}
+use Rattle.network_frames.specs.Frames.{head_refusal}
 use Rattle.network_frames.proofs.Passed.{HeadPassed, head_passed}
-use Rattle.network_frames.proofs.Cases.{own-number}
 use Rattle.table_text.specs.Text.{SpanFine}
 use Rattle.table_text.specs.Frames.{count_refusal, least_weight, most_weight, weight_ok, above, span_refusal}
-use Rattle.table_text.specs.Frames.{head_answer, span_answer, table_head_in, read_table_head}
-use Rattle.table_text.specs.declared.frames.ReadTableHead.{ReadTableHead}
-use Rattle.table_text.specs.declared.frames.ReadTableHead.TheVariants as head
-use Rattle.table_text.specs.declared.frames.ReadSpan.{ReadSpan}
-use Rattle.table_text.specs.declared.frames.ReadSpan.TheVariants as span
+use Rattle.table_text.specs.Frames.{table_head_in, read_table_head}
 
 -- a span that is not refused, and one that is fine
 above-is : (l h : ℕ) (s : Span) → above l h s ≡ true → (l < s.lower) ⊎ ((l ≡ s.lower) × (h < s.higher))
@@ -101,19 +97,19 @@ pub count-unrefused : (n k : ℕ) → k ≤ 2 * n → count_refusal n k ≡ 0
 unfolding count_refusal
 count-unrefused n k x = rw (le-leb k (2 * n) x)
 
-module _ (t : List ℕ) {h : TableHead} {first : ℕ} (x : answer (found h first) ≡ read_table_head t) where
-  pub table-head-fine : TableHeadPassed h.vertices h.reserved h.spans
+module _ (t : List ℕ) {p : TableHead × ℕ} (x : answer p ≡ read_table_head t) where
+  pub table-head-fine : TableHeadPassed p.0.vertices p.0.reserved p.0.spans
   unfolding read_table_head table_head_in and_then unless
   table-head-fine = go (read_line TABLE_HEAD t 0) x
     where
       -- by the head's own refusals
       own : (f : TableHead) (place j : ℕ) → head_refusal f.vertices f.reserved ≡ j
           → (k : ℕ) → count_refusal f.vertices f.spans ≡ k
-          → answer (found h first) ≡ unless j (unless k (answer (found f place)))
-          → TableHeadPassed h.vertices h.reserved h.spans
+          → answer p ≡ unless j (unless k (answer (f, place)))
+          → TableHeadPassed p.0.vertices p.0.reserved p.0.spans
       own f place zero e zero d y =
-          let q : f ≡ h = cc in
-          rw (← q)
+          let q : p ≡ (f, place) = cc in
+          rw q
           (record {
             network = head_passed f.vertices f.reserved (omega arith);
             spans_few = count-passed f.vertices f.spans (omega arith);
@@ -121,22 +117,7 @@ module _ (t : List ℕ) {h : TableHead} {first : ℕ} (x : answer (found h first
       own f place zero e (suc k) d y = no_answer (cc)
       own f place (suc j) e k d y = no_answer (cc)
 
-      go : (a : Answer Placed) → answer (found h first) ≡ and_then a table_head_in
-          → TableHeadPassed h.vertices h.reserved h.spans
+      go : (a : Answer (Fields × ℕ)) → answer p ≡ and_then a table_head_in
+          → TableHeadPassed p.0.vertices p.0.reserved p.0.spans
       go (refused k) y = no_answer (cc)
-      go (answer (placed f place)) y = own (table_head_of f) place _ refl _ refl y
-
--- ── by the case that a caller finds ──
-module _ {r : ReadTableHead} {a : Answer (Found TableHead)} (x : head_answer r ≡ a) where
-  pub head_as : {case : ReadTableHead} → r ≡ case → head_answer case ≡ a
-  head_as e = ap head_answer (sym e) ∙ x
-
-  pub head-number : {j k : ℕ} → r ≡ head.Refused k → j ≡ refusal_of (head_answer r) → refused j ≡ a
-  head-number {j} {k} e n = own-number (head_answer r) a j k (ap head_answer e) n x
-
-module _ {r : ReadSpan} {a : Answer (Found Span)} (x : span_answer r ≡ a) where
-  pub span-as : {case : ReadSpan} → r ≡ case → span_answer case ≡ a
-  span-as e = ap span_answer (sym e) ∙ x
-
-  pub span-number : {j k : ℕ} → r ≡ span.Refused k → j ≡ refusal_of (span_answer r) → refused j ≡ a
-  span-number {j} {k} e n = own-number (span_answer r) a j k (ap span_answer e) n x
+      go (answer l) y = own (table_head_of l.0) l.1 _ refl _ refl y

@@ -15,7 +15,7 @@ use Rattle.base.proofs.Bools.{no_answer}
 use Rattle.base.proofs.Held.{Storing, storing-none}
 use Rattle.base.proofs.Taking.{first, behind, behind-none, behind-next, behind-refused, behind-all}
 use Rattle.frame.specs.Table.{SPAN}
-use Rattle.frame.specs.Line.{Placed, placed, read_line}
+use Rattle.frame.specs.Line.{read_line}
 use Rattle.frame.specs.Kinds.{span_of}
 use Rattle.frame.specs.Frames.{Frames, frame, broken, frames_of}
 use Rattle.frame.specs.declared.line.Fields.{Fields}
@@ -23,7 +23,6 @@ use Rattle.frame.specs.declared.kinds.TableHead.{TableHead}
 use Rattle.frame.specs.declared.kinds.Span.{Span}
 use Rattle.frame.specs.declared.kinds.Edge.{Edge}
 use Rattle.frame.proofs.Runs.{next-read, only-form, run-next, run-broken, run-left, run-done}
-use Rattle.network_frames.specs.Frames.{found}
 use Rattle.table_text.specs.Frames.{most_weight, span_refusal, read_table_head, span_in, read_span}
 use Rattle.table_text.specs.Text.{Table, SpanFine, spans_in, weights, totalled, table_behind, read_table}
 use Rattle.table_text.specs.Text.{expanded, stands_for, read_expanded}
@@ -50,12 +49,12 @@ module _ (n k : ℕ) (text : List ℕ) (at i l h : ℕ) (x : i < k) where
   row-due : SPAN ≡ get_or (replicate k SPAN) i 0
   row-due = sym (get_or-replicate k i SPAN 0 x)
 
-  there : {f : Fields} {next : ℕ} → answer (placed f next) ≡ read_line SPAN text at
-      → left k text at i ≡ frame f (left k text next (i + 1))
-  there {f} {next} y =
-      run-next (replicate k SPAN) text i at SPAN due row-due f next (next-read SPAN at text f next y)
+  there : {l : Fields × ℕ} → answer l ≡ read_line SPAN text at
+      → left k text at i ≡ frame l.0 (left k text l.1 (i + 1))
+  there {l} y =
+      run-next (replicate k SPAN) text i at SPAN due row-due l.0 l.1 (next-read SPAN at text l.0 l.1 y)
 
-  broken-there : refused FORM ≡ read_line SPAN text at → left k text at i ≡ broken
+  broken-there : {j : ℕ} → refused j ≡ read_line SPAN text at → left k text at i ≡ broken
   broken-there y = run-broken (replicate k SPAN) text i at SPAN due row-due y
 
   pub span-refused : {j : ℕ} → refused j ≡ read_span text at n l h → spans_in n l h (left k text at i) ≡ refused j
@@ -63,37 +62,34 @@ module _ (n k : ℕ) (text : List ℕ) (at i l h : ℕ) (x : i < k) where
   span-refused {j} y = go (read_line SPAN text at) refl y
     where
       -- by the span's own refusal
-      own : {f : Fields} {next : ℕ} → answer (placed f next) ≡ read_line SPAN text at
-          → (m : ℕ) → span_refusal n l h (span_of f) ≡ m → refused j ≡ unless m (answer (found (span_of f) next))
+      own : {f : Fields × ℕ} → answer f ≡ read_line SPAN text at
+          → (m : ℕ) → span_refusal n l h (span_of f.0) ≡ m → (p : Span × ℕ) → refused j ≡ unless m (answer p)
           → spans_in n l h (left k text at i) ≡ refused j
-      own q zero e y = no_answer (cc)
-      own q (suc m) e y = rw (there q, e) (cc)
+      own q zero e p y = no_answer (cc)
+      own q (suc m) e p y = rw (there q, e) (cc)
 
-      go : (a : Answer Placed) → a ≡ read_line SPAN text at → refused j ≡ and_then a (span_in n l h)
+      go : (a : Answer (Fields × ℕ)) → a ≡ read_line SPAN text at → refused j ≡ and_then a (span_in n l h)
           → spans_in n l h (left k text at i) ≡ refused j
-      go (refused m) q y = let z = only-form SPAN text at m q in rw (broken-there (cc)) (cc)
-      go (answer (placed f next)) q y = own q _ refl y
+      go (refused m) q y = let form = only-form SPAN text at m q in rw (broken-there q) (cc)
+      go (answer f) q y = own q _ refl _ y
 
-  pub span-found : {s : Span} {next : ℕ} → answer (found s next) ≡ read_span text at n l h
-      → SpanFound n k text at i l h s next
+  pub span-found : {p : Span × ℕ} → answer p ≡ read_span text at n l h → SpanFound n k text at i l h p.0 p.1
   unfolding read_span span_in and_then unless spans_in first
-  span-found {s} {next} y = go (read_line SPAN text at) refl y
+  span-found {p} y = go (read_line SPAN text at) refl y
     where
       -- by the span's own refusal
-      own : {f : Fields} {place : ℕ} → answer (placed f place) ≡ read_line SPAN text at
-          → (m : ℕ) → span_refusal n l h (span_of f) ≡ m
-          → answer (found s next) ≡ unless m (answer (found (span_of f) place)) → SpanFound n k text at i l h s next
-      own {f} {place} q zero e y =
-          let u : span_of f ≡ s = cc in
-          let v : place ≡ next = cc in
-          rw (← u, ← v)
-          (record { passed = span-passed n l h (span_of f) (omega arith); goes = rw (there q, e) })
+      own : {f : Fields × ℕ} → answer f ≡ read_line SPAN text at
+          → (m : ℕ) → span_refusal n l h (span_of f.0) ≡ m
+          → answer p ≡ unless m (answer (span_of f.0, f.1)) → SpanFound n k text at i l h p.0 p.1
+      own {f} q zero e y =
+          let u : p ≡ (span_of f.0, f.1) = cc in
+          rw u (record { passed = span-passed n l h (span_of f.0) (omega arith); goes = rw (there q, e) })
       own q (suc m) e y = no_answer (cc)
 
-      go : (a : Answer Placed) → a ≡ read_line SPAN text at → answer (found s next) ≡ and_then a (span_in n l h)
-          → SpanFound n k text at i l h s next
+      go : (a : Answer (Fields × ℕ)) → a ≡ read_line SPAN text at → answer p ≡ and_then a (span_in n l h)
+          → SpanFound n k text at i l h p.0 p.1
       go (refused m) q y = no_answer (cc)
-      go (answer (placed f place)) q y = own q _ refl y
+      go (answer f) q y = own q _ refl y
 
 -- ── spans in columns ──
 
@@ -120,15 +116,15 @@ pub head-refused : (text : List ℕ) {k : ℕ} → refused k ≡ read_table_head
 unfolding read_table
 head-refused text x = then-refused (read_table_head text) (table_behind text) _ (sym x)
 
-pub reading-none : {text : List ℕ} {head : TableHead} {at : ℕ} {low high : List ℕ} {cost : List ℤ}
-    → answer (found head at) ≡ read_table_head text
-    → Reading text head.vertices head.reserved head.spans low high cost low high cost at 0 0 0 0
+pub reading-none : {text : List ℕ} {p : TableHead × ℕ} {low high : List ℕ} {cost : List ℤ}
+    → answer p ≡ read_table_head text
+    → let h = p.0 in Reading text h.vertices h.reserved h.spans low high cost low high cost p.1 0 0 0 0
 unfolding read_table table_behind expanded weights
-reading-none {text} {head} {at} x =
+reading-none {text} {p} x =
     record {
       fine = table-head-fine text x;
       passed = [];
-      decides = then-answer (read_table_head text) (table_behind text) (found head at) (sym x) ∙ rw behind-none;
+      decides = then-answer (read_table_head text) (table_behind text) p (sym x) ∙ rw behind-none;
       within = omega arith;
       total = refl;
       few = omega arith;
@@ -157,30 +153,32 @@ module _ {text : List ℕ} {n r k : ℕ} {low₀ high₀ : List ℕ} {cost₀ : 
     pub reading-refused : {j : ℕ} → refused j ≡ read_span text at n l h → read_table text ≡ refused j
     reading-refused y = reading-stopped (span-refused n k text at i l h x y)
 
-    module _ {s : Span} {next : ℕ} (y : answer (found s next) ≡ read_span text at n l h)
-        (room : Roomy low₀ high₀ cost₀) where
-      this : SpanFound n k text at i l h s next
+    module _ {p : Span × ℕ} (y : answer p ≡ read_span text at n l h) (room : Roomy low₀ high₀ cost₀) where
+      abbrev s : Span
+      s = p.0
+
+      this : SpanFound n k text at i l h s p.1
       this = span-found n k text at i l h x y
 
       pub reading-layable : Layable s edges low high cost
       reading-layable =
-          let p = this.passed in
+          let f = this.passed in
           let few = edges_few x in
           let v = w.fine.network.few in
           record {
-            few = p.most;
-            lower_fits = omega (arith, p.rising, p.inside);
-            higher_fits = omega (arith, p.inside);
-            low_room = omega (arith, p.most, room.low_room, w.lows.size);
-            high_room = omega (arith, p.most, room.high_room, w.highs.size);
-            cost_room = omega (arith, p.most, room.cost_room, w.costs.size);
+            few = f.most;
+            lower_fits = omega (arith, f.rising, f.inside);
+            higher_fits = omega (arith, f.inside);
+            low_room = omega (arith, f.most, room.low_room, w.lows.size);
+            high_room = omega (arith, f.most, room.high_room, w.highs.size);
+            cost_room = omega (arith, f.most, room.cost_room, w.costs.size);
           }
 
       pub reading-next : {low' high' : List ℕ} {cost' : List ℤ} → low' ≡ laid edges s.weight s.lower low
           → high' ≡ laid edges s.weight s.higher high → cost' ≡ laid edges s.weight s.cost cost
-          → Reading text n r k low₀ high₀ cost₀ low' high' cost' next (i + 1) (edges + s.weight) s.lower
+          → Reading text n r k low₀ high₀ cost₀ low' high' cost' p.1 (i + 1) (edges + s.weight) s.lower
           s.higher
-      reading-next p q r =
+      reading-next lows highs costs =
           let f = reading-layable in
           let few = this.passed.most in
           record {
@@ -193,15 +191,15 @@ module _ {text : List ℕ} {n r k : ℕ} {low₀ high₀ : List ℕ} {cost₀ : 
             lows =
                 rw (part-more (λ e. e.lower) s.lower w.passed s (λ j. refl))
                 (storing-laid w.lows (count (λ e. e.lower)) s.weight s.lower
-                (omega (arith, f.low_room, w.lows.size)) p);
+                (omega (arith, f.low_room, w.lows.size)) lows);
             highs =
                 rw (part-more (λ e. e.higher) s.higher w.passed s (λ j. refl))
                 (storing-laid w.highs (count (λ e. e.higher)) s.weight s.higher
-                (omega (arith, f.high_room, w.highs.size)) q);
+                (omega (arith, f.high_room, w.highs.size)) highs);
             costs =
                 rw (part-more (λ e. e.cost) s.cost w.passed s (λ j. refl))
                 (storing-laid w.costs (count (λ e. e.cost)) s.weight s.cost
-                (omega (arith, f.cost_room, w.costs.size)) r);
+                (omega (arith, f.cost_room, w.costs.size)) costs);
           }
 
   -- the last span is read: something is left over, or nothing

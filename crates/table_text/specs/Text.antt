@@ -10,7 +10,6 @@ use Rattle.frame.specs.Frames.{Frames, done, broken, frame, frames_of, lines_of}
 use Rattle.frame.specs.declared.kinds.TableHead.{TableHead}
 use Rattle.frame.specs.declared.kinds.Span.{Span}
 use Rattle.frame.specs.declared.kinds.Edge.{Edge}
-use Rattle.network_frames.specs.Frames.{Found, found}
 use Rattle.network_text.specs.Text.{Meaning, meaning_of}
 use Rattle.table_text.specs.Frames.{least_weight, most_weight, span_refusal, read_table_head}
 
@@ -42,8 +41,8 @@ totalled n r ss =
 
 -- the table behind a head: as many spans as it says and nothing else. Before
 -- the first span stand the ends 0 and 0: every pair of two ends is above them
-unfoldable pub table_behind : List ℕ → Found TableHead → Answer Table
-table_behind t (found h first) =
+unfoldable pub table_behind : List ℕ → TableHead × ℕ → Answer Table
+table_behind t (h, first) =
     let n = h.vertices in
     and_then (spans_in n 0 0 (frames_of (replicate h.spans SPAN) (drop first t))) (totalled n h.reserved)
 

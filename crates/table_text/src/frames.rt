@@ -1,13 +1,12 @@
 // The frames of a table text, read one by one: its head, and the span at a place.
 ghost use Rattle.std.specs.Prelude.{◌≡◌, ◌≤◌};
-ghost use Rattle.base.specs.Answer.{refusal_of};
+ghost use Rattle.base.specs.Answer.{told, refusal_of};
 ghost use Rattle.base.specs.Limits.{vertex_limit};
-ghost use Rattle.table_text.specs.Frames.{count_refusal, weight_ok, above, span_refusal, head_answer, span_answer};
-ghost use Rattle.table_text.specs.Frames.{read_table_head, read_span};
+ghost use Rattle.table_text.specs.Frames.{count_refusal, weight_ok, above, span_refusal, read_table_head, read_span};
 
-use base::{COST, ENDS, FORM, TOTAL, WEIGHT, cost_ok};
-use frame::{Line, SPAN, Span, TABLE_HEAD, TableHead, read_line};
-use network_frames::head_refusal;
+use base::{Refusal, cost_ok};
+use frame::{Kind, Span, TableHead, read_line};
+use network_frames::check_head;
 
 // A span's doubled weight is at least so much,
 const LEAST_WEIGHT: u64 = 1;
@@ -15,53 +14,15 @@ const LEAST_WEIGHT: u64 = 1;
 // and at most so much.
 pub const MOST_WEIGHT: u64 = 4;
 
-// What a text starts with: a table's head and the place behind its line, or a refusal's number.
-#[derive(Clone, Copy)]
-pub enum ReadTableHead {
-    Read(TableHead, usize),
-    Refused(u8),
-}
-
-// What stands at a place of a text: a span and the place behind its line, or a refusal's number.
-#[derive(Clone, Copy)]
-pub enum ReadSpan {
-    Read(Span, usize),
-    Refused(u8),
-}
-
-impl ReadTableHead {
-    // The refusal's number, or 0.
-    pub fn refusal(self) -> u8
-        ensures { result ≡ refusal_of (head_answer self) }
-    {
-        match self {
-            ReadTableHead::Refused(number) => number,
-            ReadTableHead::Read(_, _) => 0,
-        }
-    }
-}
-
-impl ReadSpan {
-    // The refusal's number, or 0.
-    pub fn refusal(self) -> u8
-        ensures { result ≡ refusal_of (span_answer self) }
-    {
-        match self {
-            ReadSpan::Refused(number) => number,
-            ReadSpan::Read(_, _) => 0,
-        }
-    }
-}
-
-// The refusal of a span count, or 0.
-fn count_refusal(vertices: usize, spans: u64) -> u8
+// Refuses more spans than a network of so many vertices has edges.
+fn check_count(vertices: usize, spans: u64) -> Result<(), Refusal>
     requires { vertices ≤ vertex_limit }
-    ensures { result ≡ count_refusal vertices spans }
+    ensures { refusal_of (told result) ≡ count_refusal vertices spans }
 {
     if spans <= 2 * vertices as u64 {
-        0
+        Ok(())
     } else {
-        TOTAL
+        Err(Refusal::Total)
     }
 }
 
@@ -79,56 +40,58 @@ fn above(lower: u64, higher: u64, span: Span) -> bool
     lower < span.lower || lower == span.lower && higher < span.higher
 }
 
-// The refusal of a span behind one with the ends `lower` and `higher`, or 0.
-fn span_refusal(vertices: usize, lower: u64, higher: u64, span: Span) -> u8
-    ensures { result ≡ span_refusal vertices lower higher span }
+// Refuses a span behind one with the ends `lower` and `higher` by its ends, its weight, its place or its cost.
+fn check_span(vertices: usize, lower: u64, higher: u64, span: Span) -> Result<(), Refusal>
+    ensures { refusal_of (told result) ≡ span_refusal vertices lower higher span }
 {
     if span.higher <= span.lower {
-        return ENDS;
+        return Err(Refusal::Ends);
     }
     if vertices as u64 <= span.higher {
-        return ENDS;
+        return Err(Refusal::Ends);
     }
     if !weight_ok(span.weight) {
-        return WEIGHT;
+        return Err(Refusal::Weight);
     }
     if !above(lower, higher, span) {
-        return WEIGHT;
+        return Err(Refusal::Weight);
     }
-    if cost_ok(span.cost) { 0 } else { COST }
+    if cost_ok(span.cost) {
+        Ok(())
+    } else {
+        Err(Refusal::Cost)
+    }
 }
 
-// Reads the head that a table text starts with.
-pub fn read_table_head(text: &[u8]) -> ReadTableHead
-    ensures { head_answer result ≡ read_table_head text.now }
+// Reads the head that a table text starts with: the head, and the place behind its line.
+pub fn read_table_head(text: &[u8]) -> Result<(TableHead, usize), Refusal>
+    ensures { told result ≡ read_table_head text.now }
 {
-    let Line::Frame(f, next) = read_line(text, 0, TABLE_HEAD) else {
-        return ReadTableHead::Refused(FORM);
+    let Ok((f, next)) = read_line(text, 0, Kind::TableHead) else {
+        return Err(Refusal::Form);
     };
     let head = TableHead::of(f);
     let vertices = head.vertices as usize;
-    let refusal = head_refusal(vertices, head.reserved as usize);
-    if 0 < refusal {
-        return ReadTableHead::Refused(refusal);
-    }
-    let refusal = count_refusal(vertices, head.spans);
-    if 0 < refusal {
-        return ReadTableHead::Refused(refusal);
-    }
-    ReadTableHead::Read(head, next)
+    check_head(vertices, head.reserved as usize)?;
+    check_count(vertices, head.spans)?;
+    Ok((head, next))
 }
 
-// Reads the span at a place of a text, behind one with the ends `lower` and `higher`, in a table of so many vertices.
-pub fn read_span(text: &[u8], at: usize, vertices: usize, lower: u64, higher: u64) -> ReadSpan
-    ensures { span_answer result ≡ read_span text.now at vertices lower higher }
+// Reads the span at a place of a text, behind one with the ends `lower` and `higher`, in a table of so many vertices:
+// the span, and the place behind its line.
+pub fn read_span(
+    text: &[u8],
+    at: usize,
+    vertices: usize,
+    lower: u64,
+    higher: u64,
+) -> Result<(Span, usize), Refusal>
+    ensures { told result ≡ read_span text.now at vertices lower higher }
 {
-    let Line::Frame(f, next) = read_line(text, at, SPAN) else {
-        return ReadSpan::Refused(FORM);
+    let Ok((f, next)) = read_line(text, at, Kind::Span) else {
+        return Err(Refusal::Form);
     };
     let span = Span::of(f);
-    let refusal = span_refusal(vertices, lower, higher, span);
-    if 0 < refusal {
-        return ReadSpan::Refused(refusal);
-    }
-    ReadSpan::Read(span, next)
+    check_span(vertices, lower, higher, span)?;
+    Ok((span, next))
 }

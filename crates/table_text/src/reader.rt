@@ -4,8 +4,8 @@ ghost use Rattle.network_text.specs.Columns.{NetworkRead};
 ghost use Rattle.table_text.specs.Text.{read_expanded};
 ghost use Rattle.table_text.specs.Columns.{Roomy, Layable, laid};
 
-use super::frames::{MOST_WEIGHT, ReadSpan, ReadTableHead, read_span, read_table_head};
-use base::{EDGE_LIMIT, FORM, TOTAL};
+use super::frames::{MOST_WEIGHT, read_span, read_table_head};
+use base::{EDGE_LIMIT, Refusal};
 use frame::Span;
 use network_text::ReadNetwork;
 
@@ -20,52 +20,43 @@ fn lay(span: Span, from: usize, low: &mut [u16], high: &mut [u16], cost: &mut [i
     ensures cost { cost.new ≡ laid from span.weight span.cost cost.old }
 {
     let end = from + span.weight as usize;
-    let mut i = from;
-    while i < end {
-        low[i] = span.lower as u16;
-        high[i] = span.higher as u16;
-        let c = span.cost;
-        cost[i] = c;
-        i += 1;
-    }
+    low[from..end].fill(span.lower as u16);
+    high[from..end].fill(span.higher as u16);
+    cost[from..end].fill(span.cost);
 }
 
 // Reads a table text into columns of the edges that it stands for. After a refusal they may hold anything.
-pub fn read_table(text: &[u8], low: &mut [u16], high: &mut [u16], cost: &mut [i64]) -> ReadNetwork
+pub fn read_table(
+    text: &[u8],
+    low: &mut [u16],
+    high: &mut [u16],
+    cost: &mut [i64],
+) -> Result<ReadNetwork, Refusal>
     requires { Roomy low.old high.old cost.old }
     ensures { NetworkRead (read_expanded text.now)
         low.old high.old cost.old
         low.new high.new cost.new result }
 {
-    let start = read_table_head(text);
-    let ReadTableHead::Read(head, first) = start else {
-        return ReadNetwork::Refused(start.refusal());
-    };
+    let (head, first) = read_table_head(text)?;
     let vertices = head.vertices as usize;
     let reserved = head.reserved as usize;
-    let spans = head.spans as usize;
     let mut at = first;
     let mut edges = 0;
     let mut lower = 0;
     let mut higher = 0;
-    let mut i = 0;
-    while i < spans {
-        let read = read_span(text, at, vertices, lower, higher);
-        let ReadSpan::Read(span, next) = read else {
-            return ReadNetwork::Refused(read.refusal());
-        };
+    for _ in 0..head.spans {
+        let (span, next) = read_span(text, at, vertices, lower, higher)?;
         lay(span, edges, low, high, cost);
         edges += span.weight as usize;
         lower = span.lower;
         higher = span.higher;
         at = next;
-        i += 1;
     }
     if at < text.len() {
-        return ReadNetwork::Refused(FORM);
+        return Err(Refusal::Form);
     }
     if edges != 2 * vertices {
-        return ReadNetwork::Refused(TOTAL);
+        return Err(Refusal::Total);
     }
-    ReadNetwork::Read { vertices, reserved }
+    Ok(ReadNetwork { vertices, reserved })
 }

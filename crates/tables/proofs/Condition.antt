@@ -2,7 +2,7 @@
 use mathlib.Core.Path.{◌≡◌, refl, sym, ◌∙◌, ap}
 use mathlib.Core.Bool.{Bool}
 use mathlib.Core.List.{List}
-use Prim.Native.Nat.{ℕ, ◌-◌, ◌*◌, ◌≤◌}
+use Prim.Native.Nat.{ℕ, ◌*◌, ◌≤◌}
 use native.Mathlib.Omega.{arith}
 use lib.IntN.{pos, nat_abs, ◌*ℤ◌}
 use lib.Signed.{◌≤ℤ◌}
@@ -21,7 +21,6 @@ use Rattle.table_text.specs.Text.{Table, read_table, stands_for}
 use Rattle.table_text.proofs.Meaning.{parts, expanded-meeting}
 use Rattle.table_text.proofs.Expanding.{length-expanded, numbered-on}
 use Rattle.table_text.proofs.Reading.{expanded-read}
-use Rattle.claim.specs.declared.Planned.TheVariants as plan
 use Rattle.claim.specs.Services.{accept_network, Texts, plan_of, plan_text, planned_of, plan_reply, planned_chain}
 use Rattle.claim.specs.Services.{planned_kept}
 use Rattle.claim.specs.Condition.{Accepted}
@@ -63,7 +62,7 @@ same_buffers t s e chain lent =
     )
 
 same_refusal : (t : List ℕ) (k : ℕ) → table_network t ≡ refused k → (chain lent : List ℕ)
-    → (table_plan_reply t chain lent ≡ plan.Refused k)
+    → (table_plan_reply t chain lent ≡ refused k)
     × (table_planned_chain t chain lent ≡ chain)
     × (table_planned_kept t chain lent ≡ lent)
 unfolding planned_of

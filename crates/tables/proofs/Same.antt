@@ -1,24 +1,19 @@
 -- A table and the network text that is written for it: what is loaded, accepted and planned of them is the same.
 use mathlib.Core.Path.{◌≡◌, refl, sym, ◌∙◌, ap}
-use mathlib.Core.Logic.{⊎_elim}
 use mathlib.Core.List.{List}
 use Prim.Native.Nat.{ℕ}
-use native.Mathlib.Omega.{arith}
 use Rattle.base.specs.Answer.{Answer, refused, answer, and_then}
-use Rattle.base.specs.Refusals.{TOTAL}
 use Rattle.base.proofs.Answers.{then-refused, then-answer}
 use Rattle.base.proofs.Bools.{no_answer}
-use Rattle.base.proofs.Numbered.{Numbered, answered, then-meeting, meeting-as}
 use Rattle.network_text.specs.Text.{Meaning, network_text, read_network, write_network}
 use Rattle.network_text.proofs.OneToOne.{read_written}
-use Rattle.loading.specs.Known.{Known, Ready}
-use Rattle.loading.specs.Loading.{network_of, load_network, loaded_of, loaded_answer}
-use Rattle.loading.specs.declared.Loaded.{Loaded}
-use Rattle.loading.proofs.Reading.{known_of, answer-ready, loaded-again}
+use Rattle.loading.specs.Known.{Known}
+use Rattle.loading.specs.Loading.{network_of, load_network}
+use Rattle.loading.proofs.Reading.{known_of}
 use Rattle.graph.specs.declared.Network.{Network}
 use Rattle.table_text.specs.Text.{Table, read_table, expanded, stands_for, read_expanded}
 use Rattle.table_text.proofs.Reading.{expanded-read}
-use Rattle.table_text.proofs.Meaning.{stands, expanded-table, expanded-valid, expanded-meeting}
+use Rattle.table_text.proofs.Meaning.{stands, expanded-table, expanded-valid}
 use Rattle.claim.specs.Services.{accepting, accept_network, plan_of, plan_text, plan_given, plan_in}
 use Rattle.tables.specs.Services.{load_table, accept_table, plan_table, table_plan_given, table_network}
 
@@ -31,16 +26,6 @@ table-known t g e = go (read_expanded t) refl e
     go (refused k) q e = no_answer (cc)
     go (answer m) q e = let x : network_of m ≡ g = cc in rw x at (known_of (expanded-valid t m q))
 
-pub table-numbered : (t : List ℕ) → Numbered TOTAL (load_table t)
-unfolding load_table
-table-numbered t =
-    then-meeting (read_expanded t) _
-    (meeting-as
-    (λ k. ⊎_elim (λ w. (omega (arith, w.0), omega (arith, w.1)))
-    (⊎_elim (λ e. (omega arith, omega arith)) (λ e. (omega arith, omega arith))))
-    (expanded-meeting t))
-    (λ m. answered (network_of m))
-
 pub load-refused : (t : List ℕ) (k : ℕ) → read_expanded t ≡ refused k → load_table t ≡ refused k
 unfolding load_table
 load-refused t k e = then-refused (read_expanded t) _ k e
@@ -49,16 +34,13 @@ pub load_read : (t : List ℕ) (m : Meaning) → read_expanded t ≡ answer m �
 unfolding load_table
 load_read t m e = then-answer (read_expanded t) _ m e
 
-pub table-ready : (t : List ℕ) {r : Loaded} → r ≡ loaded_of (load_table t) → Ready r
-table-ready t e = rw e (answer-ready (load_table t) (table-numbered t) (table-known t))
-
 -- what is accepted and planned of what a table loads
-pub accept-loaded : (t : List ℕ) {r : Loaded} → r ≡ loaded_of (load_table t) → accepting (loaded_answer r) ≡ accept_table t
+pub accept-loaded : (t : List ℕ) {a : Answer Network} → a ≡ load_table t → accepting a ≡ accept_table t
 unfolding accept_table
-accept-loaded t e = ap accepting (loaded-again (load_table t) (table-numbered t) e)
+accept-loaded t e = ap accepting e
 
-pub plan-loaded : (t chain kept : List ℕ) {r : Loaded} → r ≡ loaded_of (load_table t)
-    → plan_in (accepting (loaded_answer r)) chain kept ≡ table_plan_given t chain kept
+pub plan-loaded : (t chain kept : List ℕ) {a : Answer Network} → a ≡ load_table t
+    → plan_in (accepting a) chain kept ≡ table_plan_given t chain kept
 unfolding table_plan_given
 plan-loaded t chain kept e = ap (λ (a : Answer Network). plan_in a chain kept) (accept-loaded t e)
 

@@ -10,7 +10,6 @@ use Rattle.graph.specs.Network.{kept_cost, all_but_reserved}
 use Rattle.graph.specs.declared.Network.{Network}
 use Rattle.kept_text.specs.Text.{kept_edges, kept_text, costs_in}
 use Rattle.table_text.specs.Text.{Table, weights, read_table, expanded}
-use Rattle.claim.specs.declared.Planned.TheVariants as plan
 use Rattle.claim.specs.Services.{accept_network, check_chain_text, Texts, plan_text, plan_reply, planned_chain, planned_kept}
 use Rattle.claim.specs.Condition.{Accepted, Ruled, Owed}
 use Rattle.tables.specs.Services.{accept_table, plan_table, table_plan_reply, table_planned_chain, table_planned_kept}
@@ -63,7 +62,7 @@ pub record TableClaim : Type 0 where
       × (table_planned_kept t chain lent ≡ planned_kept s chain lent)
   -- a table that has no network text is refused with that number, and the buffers keep their bytes
   pub same_refusal : (t : List ℕ) (k : ℕ) → table_network t ≡ refused k → (chain lent : List ℕ)
-      → (table_plan_reply t chain lent ≡ plan.Refused k)
+      → (table_plan_reply t chain lent ≡ refused k)
       × (table_planned_chain t chain lent ≡ chain)
       × (table_planned_kept t chain lent ≡ lent)
   -- it meets 1 to 5, 15 or 16 alone

@@ -29,7 +29,7 @@ unfoldable pub table_plan_given : List ℕ → List ℕ → List ℕ → Answer 
 table_plan_given t chain kept = plan_in (accept_table t) chain kept
 
 -- the reply, and the two buffers afterwards
-abbrev pub table_plan_reply : List ℕ → List ℕ → List ℕ → Planned
+abbrev pub table_plan_reply : List ℕ → List ℕ → List ℕ → Answer Planned
 table_plan_reply t chain kept = planned_of (table_plan_given t chain kept)
 
 abbrev pub table_planned_chain : List ℕ → List ℕ → List ℕ → List ℕ

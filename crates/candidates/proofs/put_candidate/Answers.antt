@@ -4,7 +4,7 @@ use native.Mathlib.Omega.{arith}
 use mir.Syntax.{w64}
 use mir.Val.{to_z, of_z}
 use Rattle.kept_text.specs.Text.{costs_text}
-use Rattle.rules.proofs.Planning.{new-columns}
+use Rattle.rules.proofs.Planning.{room-for}
 use Rattle.claim.proofs.Accepting.{running-few}
 use Rattle.claim.specs.Condition.{reserving}
 use Rattle.candidates.specs.Services.{plan_costs}
@@ -15,7 +15,7 @@ pub plan_steps-requires : goal.plan_steps-requires
 plan_steps-requires c =
     let run = c.requires.running in
     let few = running-few run in
-    (run, refl, omega arith, new-columns (omega arith))
+    (run, refl, omega arith, room-for c.new-steps.ensures.room (omega arith))
 
 pub put_costs-requires : goal.put_costs-requires
 put_costs-requires c =

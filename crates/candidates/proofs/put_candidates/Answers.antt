@@ -1,121 +1,55 @@
 -- `candidates::put_candidates` meets its contract.
 use mathlib.Core.List.{List, ◌++◌}
-use Prim.Native.Nat.{ℕ, ◌+◌, ◌-◌, ◌≤◌}
+use Prim.Native.Nat.{ℕ, ◌+◌}
 use native.Mathlib.Omega.{arith}
-use lib.ListN.{length, drop, get_or}
-use borrow.Author.Rules.{rules}
+use lib.ListN.{drop, get_or}
 use Rattle.base.proofs.Words.{below_at}
-use Rattle.base.proofs.Writing.{Written, written_none, written_all, written-size, piece-within, piece-room, piece-more}
+use Rattle.base.proofs.Writing.{Written, written_none, written_all, piece-within, piece-room, piece-more}
 use Rattle.claim.specs.Condition.{reserving}
 use Rattle.candidates.specs.Services.{plan_costs, candidates_costs}
 use Rattle.candidates.proofs.Reserving.{reserving-running}
 use Rattle.candidates.proofs.Listing.{candidate-left, candidates-end}
 use Rattle.candidates.proofs.put_candidates.Goals as goal
+use Rattle.candidates.proofs.put_candidates.Goals.{In-loop-candidate}
 
-pub loop-i-init : goal.loop-i-init
-loop-i-init c = (search rules, written_none _ c.args.costs.now c.requires.long)
+-- the line that is due, and those behind it
+abbrev line : (c : In-loop-candidate) → List ℕ
+line c = plan_costs (reserving (get_or c.args.candidates.now c.loop-candidate.candidate-index 0) c.args.network)
 
-pub overflow_cast-reserved : goal.overflow_cast-reserved
-overflow_cast-reserved c = omega (arith, c.shared_slice_known-in-loop-i-1.given c.loop-i.i)
+abbrev later : (c : In-loop-candidate) → List ℕ
+later c = candidates_costs c.args.network (drop (c.loop-candidate.candidate-index + 1) c.args.candidates.now)
 
-pub slice_bounds-put_candidate-count : goal.slice_bounds-put_candidate-count
-slice_bounds-put_candidate-count c =
-    let line : List ℕ =
-    let a = c.args in
-    plan_costs (reserving (get_or a.candidates.now c.loop-i.i 0) a.network) in
-    let later : List ℕ =
-    let a = c.args in
-    candidates_costs a.network (drop (c.loop-i.i + 1) a.candidates.now) in
-    let line-due : let a = c.args in Written (candidates_costs a.network a.candidates.now) (line ++ later) a.costs.now c.loop-i.costs c.loop-i.at =
-    let a = c.args in
-    candidate-left a.network a.candidates.now c.loop-i.i c.loop-i.invariant.1 c.loop-i-test.true in
-    let place_inside : c.loop-i.at ≤ length c.loop-i.costs =
-    let w = line-due in
-    omega (arith, written-size _ _ _ _ _ w, piece-within _ line later _ _ _ w) in
-    place_inside
+line-due : (c : In-loop-candidate) → Written (candidates_costs c.args.network c.args.candidates.now) (line c ++ later c)
+    c.args.costs.now c.loop-candidate.costs c.loop-candidate.at
+line-due c =
+    candidate-left c.args.network c.args.candidates.now c.loop-candidate.candidate-index c.loop-candidate.invariant
+    c.loop-candidate-test.true
 
-pub slice_bounds-put_candidate-start : goal.slice_bounds-put_candidate-start
-slice_bounds-put_candidate-start c =
-    let line : List ℕ =
-    let a = c.args in
-    plan_costs (reserving (get_or a.candidates.now c.loop-i.i 0) a.network) in
-    let later : List ℕ =
-    let a = c.args in
-    candidates_costs a.network (drop (c.loop-i.i + 1) a.candidates.now) in
-    let line-due : let a = c.args in Written (candidates_costs a.network a.candidates.now) (line ++ later) a.costs.now c.loop-i.costs c.loop-i.at =
-    let a = c.args in
-    candidate-left a.network a.candidates.now c.loop-i.i c.loop-i.invariant.1 c.loop-i-test.true in
-    let place_inside : c.loop-i.at ≤ length c.loop-i.costs =
-    let w = line-due in
-    omega (arith, written-size _ _ _ _ _ w, piece-within _ line later _ _ _ w) in
-    omega (arith, place_inside)
-
-pub slice_bounds-put_candidate-end : goal.slice_bounds-put_candidate-end
-slice_bounds-put_candidate-end c =
-    let line : List ℕ =
-    let a = c.args in
-    plan_costs (reserving (get_or a.candidates.now c.loop-i.i 0) a.network) in
-    let later : List ℕ =
-    let a = c.args in
-    candidates_costs a.network (drop (c.loop-i.i + 1) a.candidates.now) in
-    let line-due : let a = c.args in Written (candidates_costs a.network a.candidates.now) (line ++ later) a.costs.now c.loop-i.costs c.loop-i.at =
-    let a = c.args in
-    candidate-left a.network a.candidates.now c.loop-i.i c.loop-i.invariant.1 c.loop-i-test.true in
-    let place_inside : c.loop-i.at ≤ length c.loop-i.costs =
-    let w = line-due in
-    omega (arith, written-size _ _ _ _ _ w, piece-within _ line later _ _ _ w) in
-    omega (arith, place_inside)
+pub loop-candidate-init : goal.loop-candidate-init
+loop-candidate-init c = written_none _ c.args.costs.now c.requires.long
 
 pub put_candidate-at-requires : goal.put_candidate-at-requires
 put_candidate-at-requires c =
-    let line : List ℕ =
-    let a = c.args in
-    plan_costs (reserving (get_or a.candidates.now c.loop-i.i 0) a.network) in
-    let later : List ℕ =
-    let a = c.args in
-    candidates_costs a.network (drop (c.loop-i.i + 1) a.candidates.now) in
-    let line-due : let a = c.args in Written (candidates_costs a.network a.candidates.now) (line ++ later) a.costs.now c.loop-i.costs c.loop-i.at =
-    let a = c.args in
-    candidate-left a.network a.candidates.now c.loop-i.i c.loop-i.invariant.1 c.loop-i-test.true in
+    let at = (goal.at.put_candidate-at-requires c).In-loop-candidate in
     record {
-      running =
-          reserving-running _ (below_at _ c.args.candidates.now c.requires.below _ c.loop-i-test.true)
+      running = reserving-running _ (below_at _ c.args.candidates.now c.requires.below _ c.loop-candidate-test.true)
           c.requires.known c.requires.passed;
-      long = piece-room _ line later _ _ _ line-due;
+      long = piece-room _ (line at) (later at) _ _ _ (line-due at);
     }
 
 pub overflow_add-at : goal.overflow_add-at
 overflow_add-at c =
-    let line : List ℕ =
-    let a = c.args in
-    plan_costs (reserving (get_or a.candidates.now c.loop-i.i 0) a.network) in
-    let later : List ℕ =
-    let a = c.args in
-    candidates_costs a.network (drop (c.loop-i.i + 1) a.candidates.now) in
-    let line-due : let a = c.args in Written (candidates_costs a.network a.candidates.now) (line ++ later) a.costs.now c.loop-i.costs c.loop-i.at =
-    let a = c.args in
-    candidate-left a.network a.candidates.now c.loop-i.i c.loop-i.invariant.1 c.loop-i-test.true in
-    omega (arith, c.put_candidate-at.ensures.0, piece-within _ line later _ _ _ line-due)
+    let at = (goal.at.overflow_add-at c).In-loop-candidate in
+    omega (arith, c.put_candidate-at.ensures.0, piece-within _ (line at) (later at) _ _ _ (line-due at))
 
-pub loop-i-preserved : goal.loop-i-preserved
-loop-i-preserved c =
-    let line : List ℕ =
-    let a = c.args in
-    plan_costs (reserving (get_or a.candidates.now c.loop-i.i 0) a.network) in
-    let later : List ℕ =
-    let a = c.args in
-    candidates_costs a.network (drop (c.loop-i.i + 1) a.candidates.now) in
-    let line-due : let a = c.args in Written (candidates_costs a.network a.candidates.now) (line ++ later) a.costs.now c.loop-i.costs c.loop-i.at =
-    let a = c.args in
-    candidate-left a.network a.candidates.now c.loop-i.i c.loop-i.invariant.1 c.loop-i-test.true in
+pub loop-candidate-preserved : goal.loop-candidate-preserved
+loop-candidate-preserved c =
+    let at = (goal.at.loop-candidate-preserved c).In-loop-candidate in
     let e = c.put_candidate-at.ensures in
-    (search rules, piece-more _ line later _ _ _ line-due _ _ e.0 e.1)
-
-pub shape_of-costs : goal.shape_of-costs
-shape_of-costs c = written-size _ _ _ _ _ c.loop-i.invariant.1
+    piece-more _ (line at) (later at) _ _ _ (line-due at) _ _ e.0 e.1
 
 pub returns : goal.returns
 returns c =
     let a = c.args in
-    written_all _ _ _ _ _ c.loop-i.invariant.1
-    (candidates-end a.network a.candidates.now c.loop-i.i (search rules))
+    written_all _ _ _ _ _ c.loop-candidate.invariant
+    (candidates-end a.network a.candidates.now c.loop-candidate.candidate-index c.loop-candidate-test.false)

@@ -7,5 +7,5 @@ use Rattle.connection.proofs.count_reached.Goals as goal
 pub returns : goal.returns
 returns c =
     λ g searchable low high edges long inside.
-    c.count.ensures ∙ least_size g _ _ searchable inside _ (rw (low, high, edges) c.reach-reached.ensures)
+    c.count.ensures ∙ least_size g _ _ searchable inside _ (rw (low, high, edges) c.reach.ensures)
     (omega (arith, long, searchable.present_room))

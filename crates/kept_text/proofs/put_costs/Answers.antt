@@ -1,14 +1,13 @@
 -- `kept_text::put_costs` meets its contract.
 use mathlib.Core.Path.{sym, ◌∙◌}
 use native.Mathlib.Omega.{arith}
-use lib.Dec.{lit<}
 use mir.Facts.{to_z-of_z}
 use Rattle.kept_text.specs.Text.{costs_text}
 use Rattle.kept_text.proofs.Texts.{length-costs}
 use Rattle.kept_text.proofs.put_costs.Goals as goal
 
 pub put_line-requires : goal.put_line-requires
-put_line-requires c = (lit< tt, omega (arith, c.requires, length-costs c.args.kept c.args.unreserved))
+put_line-requires c = omega (arith, c.requires, length-costs c.args.kept c.args.unreserved)
 
 pub returns : goal.returns
 unfolding costs_text

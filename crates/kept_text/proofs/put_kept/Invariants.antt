@@ -1,5 +1,5 @@
--- What the loops of `kept_text::put_kept` keep, and that they end.
-use Prim.Native.Nat.{◌-◌, ◌≤◌}
+-- What the loop of `kept_text::put_kept` keeps.
+use Prim.Native.Nat.{◌-◌}
 use Rattle.base.specs.Fold.{pick}
 use Rattle.base.proofs.Writing.{Written}
 use Rattle.list_text.specs.Text.{list_text}
@@ -8,8 +8,5 @@ use Rattle.kept_text.proofs.put_kept.Given as goal
 
 abbrev pub invariant-loop-edge : goal.invariant-loop-edge
 invariant-loop-edge l =
-    (l.edge ≤ l.edges)
-    × Written (list_text (kept_edges l.edges l.kept)) (list_text (pick (l.edges - l.edge) l.edge (is_kept l.kept))) l.initial.text l.text l.at
-
-abbrev pub decreases-loop-edge : goal.decreases-loop-edge
-decreases-loop-edge l = l.edges - l.edge
+    Written (list_text (kept_edges l.edges l.kept)) (list_text (pick (l.edges - l.edge) l.edge (is_kept l.kept)))
+    l.initial.text l.text l.at

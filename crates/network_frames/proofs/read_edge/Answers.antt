@@ -1,37 +1,23 @@
 -- `network_frames::read_edge` meets its contract.
-use mathlib.Core.Path.{◌≡◌, sym}
-use Rattle.base.specs.Answer.{answer, and_then}
-use Rattle.frame.specs.Table.{EDGE}
-use Rattle.frame.specs.Line.{placed, read_line}
-use Rattle.frame.proofs.Runs.{read_as, next-read}
+use Rattle.std.proofs.Common.{rules}
+use Rattle.base.specs.Answer.{and_then}
+use Rattle.base.proofs.Answers.{unless-met, unless-passed}
+use Rattle.frame.specs.Line.{read_line, line_at}
+use Rattle.frame.proofs.Runs.{next-read}
 use Rattle.network_frames.specs.Frames.{edge_in, read_edge}
-use Rattle.base.proofs.Answers.{unless-refused, unless-next}
 use Rattle.network_frames.proofs.read_edge.Goals as goal
 
 pub returns-in_default : goal.returns-in_default
-unfolding read_edge and_then
-returns-in_default c = rw (← read_as c.in_default.is c.read_line.ensures)
+unfolding read_edge and_then read_line line_at
+returns-in_default c = search rules
 
 pub of-edge-requires : goal.of-edge-requires
-of-edge-requires c =
-    let line : let a = c.args in answer (placed c.in-Frame.f c.in-Frame.next) ≡ read_line EDGE a.text.now a.at =
-    read_as c.in-Frame.is c.read_line.ensures in
-    (next-read _ _ _ _ _ line).fits
+of-edge-requires c = (next-read _ _ _ _ _ c.in-Ok.ensures).fits
 
-pub returns-then-refusal-gt0 : goal.returns-then-refusal-gt0
+pub returns-in_err-check_edge : goal.returns-in_err-check_edge
 unfolding read_edge edge_in and_then
-returns-then-refusal-gt0 c =
-    let line : let a = c.args in answer (placed c.in-Frame.f c.in-Frame.next) ≡ read_line EDGE a.text.now a.at =
-    read_as c.in-Frame.is c.read_line.ensures in
-    let k = c.edge_refusal-refusal.ensures in
-    rw (← line, ← c.of-edge.ensures, k)
-    (sym (unless-refused _ _ (rw k at c.if-refusal-gt0.true)))
+returns-in_err-check_edge c = search (rules, unless-met)
 
 pub returns : goal.returns
 unfolding read_edge edge_in and_then
-returns c =
-    let line : let a = c.args in answer (placed c.in-Frame.f c.in-Frame.next) ≡ read_line EDGE a.text.now a.at =
-    read_as c.in-Frame.is c.read_line.ensures in
-    let k = c.edge_refusal-refusal.ensures in
-    rw (← line, ← c.of-edge.ensures)
-    (sym (unless-next _ _ (rw k at c.if-refusal-gt0.false)))
+returns c = search (rules, unless-passed)

@@ -1,5 +1,4 @@
--- What the loops of `reasons_text::put_reasons` keep, and that they end.
-use Prim.Native.Nat.{◌-◌, ◌≤◌}
+-- What the loop of `reasons_text::put_reasons` keeps.
 use Rattle.base.proofs.Writing.{Written}
 use Rattle.reasons_text.specs.Text.{reasons_text}
 use Rattle.reasons_text.proofs.Texts.{lines_from}
@@ -7,7 +6,5 @@ use Rattle.reasons_text.proofs.put_reasons.Given as goal
 
 abbrev pub invariant-loop-edge : goal.invariant-loop-edge
 invariant-loop-edge l =
-    (l.edge ≤ l.edges) × Written (reasons_text l.edges l.rules l.steps) (lines_from l.edges l.rules l.steps l.edge) l.initial.text l.text l.at
-
-abbrev pub decreases-loop-edge : goal.decreases-loop-edge
-decreases-loop-edge l = l.edges - l.edge
+    Written (reasons_text l.edges l.rules l.steps) (lines_from l.edges l.rules l.steps l.edge) l.initial.text l.text
+    l.at

@@ -2,11 +2,8 @@
 use mathlib.Core.Path.{◌∙◌, ap}
 use Rattle.base.specs.Answer.{filled}
 use Rattle.claim.specs.Services.{planned_of}
-use Rattle.tables.proofs.Same.{table-ready, plan-loaded}
+use Rattle.tables.proofs.Same.{plan-loaded}
 use Rattle.tables.proofs.plan_table.Goals as goal
-
-pub plan_loaded-requires : goal.plan_loaded-requires
-plan_loaded-requires c = table-ready _ c.load_table.ensures
 
 pub returns : goal.returns
 returns c =

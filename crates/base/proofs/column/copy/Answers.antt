@@ -1,13 +1,12 @@
 -- `base::column::copy` meets its contract.
-use Rattle.base.proofs.Filling.{copying-none, copying-next, copying-all}
+use mathlib.Core.Path.{◌≡◌}
+use native.Mathlib.Omega.{arith}
+use lib.ListN.{length, take, length-take}
+use Rattle.base.specs.Answer.{over}
 use Rattle.base.proofs.column.copy.Goals as goal
 
-pub loop-i-init : goal.loop-i-init
-loop-i-init c = copying-none
-
-pub loop-i-preserved : goal.loop-i-preserved
-loop-i-preserved c =
-    copying-next c.loop-i.invariant 0 c.loop-i-test.true c.requires.0 c.requires.1
-
 pub returns : goal.returns
-returns c = copying-all c.loop-i.invariant c.loop-i-test.false
+unfolding over
+returns g c =
+    let n : length (take c.args.count c.args.from.now) ≡ c.args.count = simp length-take (omega (arith, c.requires.0)) in
+    rw (n, c.copy_from_slice.ensures.after)

@@ -1,11 +1,8 @@
--- What the loops of `bridges::points::begin` keep, and that they end.
-use Prim.Native.Nat.{◌-◌}
-use Rattle.base.specs.Limits.{vertex_limit}
-use Rattle.base.proofs.Filling.{Filled}
+-- What the loop of `bridges::points::begin` keeps: the places passed are their own points.
+use Prim.Native.Nat.{ℕ, ◌<◌}
+use mathlib.Core.Path.{◌≡◌}
+use Rattle.base.specs.Columns.{at}
 use Rattle.bridges.proofs.points.begin.Given as goal
 
 abbrev pub invariant-loop-i : goal.invariant-loop-i
-invariant-loop-i l = Filled vertex_limit (λ k. k) 0 l.i l.points
-
-abbrev pub decreases-loop-i : goal.decreases-loop-i
-decreases-loop-i l = vertex_limit - l.i
+invariant-loop-i l = (k : ℕ) → k < l.i → at l.points k ≡ k

@@ -1,14 +1,6 @@
--- What the loops of `bridges::points::raise_all` keep, and that they end.
-use Prim.Native.Nat.{◌≤◌}
-use mathlib.Core.Path.{◌≡◌}
-use lib.ListN.{length}
-use Rattle.base.specs.Limits.{vertex_limit}
+-- What the loop of `bridges::points::raise_all` keeps: the places from k on are raised.
 use Rattle.bridges.specs.LowPoints.{Raised}
 use Rattle.bridges.proofs.points.raise_all.Given as goal
 
 abbrev pub invariant-loop-k : goal.invariant-loop-k
-invariant-loop-k l =
-    (l.k ≤ l.count) × (length l.points ≡ vertex_limit) × Raised l.parent l.count l.initial.points l.k l.points
-
-abbrev pub decreases-loop-k : goal.decreases-loop-k
-decreases-loop-k l = l.k
+invariant-loop-k l = Raised l.forest.parent l.forest.count l.initial.points l.k l.points

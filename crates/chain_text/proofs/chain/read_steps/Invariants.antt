@@ -1,5 +1,4 @@
--- What the loops of `chain_text::chain::read_steps` keep, and that they end.
-use Prim.Native.Nat.{◌-◌}
+-- What the loop of `chain_text::chain::read_steps` keeps.
 use Rattle.chain_text.specs.Columns.{columns}
 use Rattle.chain_text.proofs.Reading.{Reading}
 use Rattle.chain_text.proofs.chain.read_steps.Given as goal
@@ -7,6 +6,3 @@ use Rattle.chain_text.proofs.chain.read_steps.Given as goal
 abbrev pub invariant-loop-i : goal.invariant-loop-i
 invariant-loop-i l =
     Reading l.steps l.text (columns l.initial.v l.initial.x l.initial.y l.initial.z l.initial.cost) (columns l.v l.x l.y l.z l.cost) l.at l.i
-
-abbrev pub decreases-loop-i : goal.decreases-loop-i
-decreases-loop-i l = l.steps - l.i

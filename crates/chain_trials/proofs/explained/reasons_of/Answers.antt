@@ -1,24 +1,6 @@
 -- `chain_trials::explained::reasons_of` meets its contract.
-use mathlib.Core.Path.{sym, ◌∙◌}
-use mathlib.Core.List.{List, ◌++◌}
-use Prim.Native.Nat.{ℕ, ◌≤◌}
-use native.Mathlib.Omega.{arith}
-use lib.ListN.{length, length-append}
-use lib.Seq.{length-take-le}
-use Rattle.base.proofs.Answers.{done-fits}
+use Rattle.replies.proofs.Within.{within-front}
 use Rattle.chain_trials.proofs.explained.reasons_of.Goals as goal
 
--- a place in the front of a list is one in the list
-in-front : (front rest : List ℕ) (place : ℕ) → place ≤ length front → place ≤ length (front ++ rest)
-in-front front rest place h = omega (arith, length-append front rest)
-
-pub slice_bounds-reasons-end-in-Done : goal.slice_bounds-reasons-end-in-Done
-slice_bounds-reasons-end-in-Done o c =
-    let done = done-fits _ _ _ (sym c.in-Done.is ∙ c.explain_chain.ensures.reply) in
-    in-front c.explain_chain.new.reasons _ _ (omega (arith, done, c.explain_chain.auto.reasons))
-
-pub slice_bounds-write_all-end : goal.slice_bounds-write_all-end
-slice_bounds-write_all-end o c =
-    let done = done-fits _ _ _ (sym c.in-Done.is ∙ c.explain_chain.ensures.reply) in
-    sym (length-take-le _ _
-    (in-front c.explain_chain.new.reasons _ _ (omega (arith, done, c.explain_chain.auto.reasons))))
+pub say_with_text-requires : goal.say_with_text-requires
+say_with_text-requires o c = within-front _ _ _ _ _ c.explain_chain-reply.ensures.reply c.explain_chain-reply.auto.reasons

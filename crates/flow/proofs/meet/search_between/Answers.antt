@@ -2,72 +2,60 @@
 use mathlib.Core.Logic.{inl, inr}
 use native.Mathlib.Omega.{arith}
 use Rattle.flow.specs.Meet.{Meets}
-use Rattle.flow.proofs.Visiting.{comes-on, comes-met}
-use Rattle.flow.proofs.Searches.{next-port, next-reached, next-vertex, number-most, search-closed, other-apart, turns-begun, parted, met-forward, met-backward, turned}
+use Rattle.flow.specs.Reach.{Comes}
+use Rattle.flow.proofs.Searches.{number-most, listed, visitable, search-closed, other-apart, turns-begun, parted, met-forward, met-backward, turned}
 use Rattle.flow.proofs.meet.search_between.Goals as goal
 
-pub loop-clock-init : goal.loop-clock-init
-loop-clock-init c = turns-begun c.requires.0 c.requires.1 c.requires.2
+pub loop-search-init : goal.loop-search-init
+loop-search-init c = turns-begun c.requires.0 c.requires.1 c.requires.2
 
-pub returns-then-clock-next : goal.returns-then-clock-next
+pub returns-then-search-next : goal.returns-then-search-next
 unfolding Meets
-returns-then-clock-next c =
-    let s = c.loop-clock.invariant in
+returns-then-search-next c =
+    let s = c.loop-search.invariant in
     parted s (inl (search-closed s.forward (omega arith)))
 
-pub returns-then-back_clock-next : goal.returns-then-back_clock-next
+pub returns-then-back-next : goal.returns-then-back-next
 unfolding Meets
-returns-then-back_clock-next c =
-    let s = c.loop-clock.invariant in
+returns-then-back-next c =
+    let s = c.loop-search.invariant in
     parted s (inr (search-closed s.backward (omega arith)))
 
 pub numbered-vertex-requires : goal.numbered-vertex-requires
-numbered-vertex-requires c =
-    let s = c.loop-clock.invariant.forward in
-    (s.tree.mated, number-most s (omega arith), next-port s (omega arith))
+numbered-vertex-requires c = listed c.loop-search.invariant.forward (omega arith)
 
 pub visit-requires : goal.visit-requires
 visit-requires c =
-    let s = c.loop-clock.invariant in
-    let is = c.numbered-vertex.ensures in (
-      rw is (next-vertex s.forward (omega arith)),
-      rw is (next-reached s.forward (omega arith)),
-      s.apart,
-      s.forward.tree,
-    )
+    let t = c.loop-search.invariant in visitable t.forward (omega arith) _ c.numbered-vertex.ensures t.apart
 
-pub returns-in-Met : goal.returns-in-Met
-unfolding Meets
-returns-in-Met c = met-forward c.loop-clock.invariant (comes-met _ c.in-Met.is c.visit.ensures)
+pub returns-in-Break : goal.returns-in-Break
+unfolding Meets Comes
+returns-in-Break c =
+    let t = c.loop-search.invariant in met-forward t c.in-Break.ensures
 
-pub numbered-vertex-requires-in-loop-clock : goal.numbered-vertex-requires-in-loop-clock
-numbered-vertex-requires-in-loop-clock c =
-    let s = c.loop-clock.invariant.backward in
-    (s.tree.mated, number-most s (omega arith), next-port s (omega arith))
+pub numbered-vertex-requires-in-loop-search : goal.numbered-vertex-requires-in-loop-search
+numbered-vertex-requires-in-loop-search c = listed c.loop-search.invariant.backward (omega arith)
 
-pub visit-requires-in-loop-clock : goal.visit-requires-in-loop-clock
-visit-requires-in-loop-clock c =
-    let t = c.loop-clock.invariant in
-    let went = comes-on c.in-On.is c.visit.ensures in
-    let is = c.numbered-vertex-in-loop-clock.ensures in
-    let left = c.if-back_clock-next.false in
-    (rw is (next-vertex t.backward left), rw is (next-reached t.backward left), other-apart went, t.backward.tree)
+pub visit-requires-in-loop-search : goal.visit-requires-in-loop-search
+unfolding Comes
+visit-requires-in-loop-search c =
+    visitable c.loop-search.invariant.backward c.if-back-next.false _
+    c.numbered-vertex-in-loop-search.ensures (other-apart c.in_default.ensures)
 
-pub returns-in-Met-visit : goal.returns-in-Met-visit
-unfolding Meets
-returns-in-Met-visit c =
-    let went = comes-on c.in-On.is c.visit.ensures in
-    met-backward c.loop-clock.invariant c.if-clock-next.false c.numbered-vertex.ensures went
-    (comes-met _ c.in-Met-visit.is c.visit-in-loop-clock.ensures)
+pub returns-in-Break-visit : goal.returns-in-Break-visit
+unfolding Meets Comes
+returns-in-Break-visit c =
+    let t = c.loop-search.invariant in
+    met-backward t c.if-search-next.false c.numbered-vertex.ensures c.in_default.ensures
+    c.in-Break-visit.ensures
 
-pub overflow_add-next : goal.overflow_add-next
-overflow_add-next c = omega (arith, number-most c.loop-clock.invariant.forward c.if-clock-next.false)
+pub loop-search-smaller : goal.loop-search-smaller
+loop-search-smaller c = omega (arith, number-most c.loop-search.invariant.forward c.if-search-next.false)
 
-pub loop-clock-smaller : goal.loop-clock-smaller
-loop-clock-smaller c = omega (arith, number-most c.loop-clock.invariant.forward c.if-clock-next.false)
-
-pub loop-clock-preserved : goal.loop-clock-preserved
-loop-clock-preserved c =
-    let went = comes-on c.in-On.is c.visit.ensures in
-    turned c.loop-clock.invariant c.if-clock-next.false c.numbered-vertex.ensures went c.if-back_clock-next.false
-    c.numbered-vertex-in-loop-clock.ensures (comes-on c.in-On-visit.is c.visit-in-loop-clock.ensures)
+pub loop-search-preserved : goal.loop-search-preserved
+unfolding Comes
+loop-search-preserved c =
+    let t = c.loop-search.invariant in
+    turned t c.if-search-next.false c.numbered-vertex.ensures c.in_default.ensures
+    c.if-back-next.false c.numbered-vertex-in-loop-search.ensures
+    c.in_default-visit.ensures

@@ -1,39 +1,33 @@
 -- `flow::meet::search_to` meets its contract: the vertices of the numbers passed are visited.
 use native.Mathlib.Omega.{arith}
 use Rattle.flow.specs.Meet.{Finds}
-use Rattle.flow.proofs.Visiting.{grown-none, grown-on, met-further, comes-on, comes-met}
-use Rattle.flow.proofs.Searches.{next-port, next-reached, next-vertex, number-most, searching-on, search-closed}
+use Rattle.flow.specs.Reach.{Comes}
+use Rattle.flow.proofs.Visiting.{grown-none, grown-on, met-further}
+use Rattle.flow.proofs.Searches.{number-most, listed, visitable, searching-on, search-closed}
 use Rattle.flow.proofs.meet.search_to.Goals as goal
 
 pub loop-next-init : goal.loop-next-init
 loop-next-init c = (c.requires.0, grown-none c.requires.0.tree, c.requires.1)
 
 pub numbered-vertex-requires : goal.numbered-vertex-requires
-numbered-vertex-requires c =
-    let s = c.loop-next.invariant.0 in
-    (s.tree.mated, number-most s (omega arith), next-port s (omega arith))
+numbered-vertex-requires c = listed c.loop-next.invariant.0 (omega arith)
 
 pub visit-requires : goal.visit-requires
 visit-requires c =
-    let inv = c.loop-next.invariant in
-    let s = inv.0 in
-    let is = c.numbered-vertex.ensures in
-    (rw is (next-vertex s (omega arith)), rw is (next-reached s (omega arith)), inv.2, s.tree)
+    let inv = c.loop-next.invariant in visitable inv.0 (omega arith) _ c.numbered-vertex.ensures inv.2
 
-pub returns-in-Met : goal.returns-in-Met
-unfolding Finds
-returns-in-Met c = met-further c.loop-next.invariant.1 (comes-met _ c.in-Met.is c.visit.ensures)
-
-pub overflow_add-next : goal.overflow_add-next
-overflow_add-next c = omega arith
+pub returns-in-Break : goal.returns-in-Break
+unfolding Finds Comes
+returns-in-Break c = met-further c.loop-next.invariant.1 c.in-Break.ensures
 
 pub loop-next-smaller : goal.loop-next-smaller
 loop-next-smaller c = omega (arith, number-most c.loop-next.invariant.0 (omega arith))
 
 pub loop-next-preserved : goal.loop-next-preserved
+unfolding Comes
 loop-next-preserved c =
     let inv = c.loop-next.invariant in
-    let went = comes-on c.in-On.is c.visit.ensures in (
+    let went = c.in_default.ensures in (
       searching-on inv.0 (omega arith) c.numbered-vertex.ensures went,
       grown-on inv.1 went.grown,
       went.apart,
@@ -43,4 +37,4 @@ pub returns : goal.returns
 unfolding Finds
 returns c =
     let inv = c.loop-next.invariant in
-    record { last = _; grown = inv.1; apart = inv.2; closed = search-closed inv.0 (omega arith) }
+    record { grown = inv.1; apart = inv.2; closed = search-closed inv.0 (omega arith) }

@@ -1,19 +1,15 @@
--- `push` meets its contract.
-use mathlib.Core.Path.{refl}
+-- `push` meets its contract: an arc is never its own reverse.
+use Prim.Native.Nat.{◌-◌}
 use native.Mathlib.Omega.{arith}
-use lib.ListN.{length-set}
+use lib.Seq.{get_or-set_other}
+use Rattle.base.specs.Columns.{at}
+use Rattle.flow.specs.Arcs.{reverse}
 use Rattle.flow.specs.Flow.{pushed}
 use Rattle.flow.proofs.paths.push.Goals as goal
 
-pub overflow_add-back : goal.overflow_add-back
-overflow_add-back c = omega (arith, c.requires.balanced.paired c.args.arc c.requires.arc_lt_arc_limit)
-
-pub bounds-residual-reverse-2 : goal.bounds-residual-reverse-2
-bounds-residual-reverse-2 c = simp length-set (omega arith)
-
-pub shape_of-residual : goal.shape_of-residual
-shape_of-residual c = simp length-set
-
 pub returns : goal.returns
 unfolding pushed
-returns c = refl
+returns c =
+    let residual = c.args.residual.now in
+    let arc = c.args.arc in
+    rw (get_or-set_other residual arc (reverse arc) (at residual arc - 1) 0 (λ e. omega (arith, c.requires.arc_lt_arc_limit)))

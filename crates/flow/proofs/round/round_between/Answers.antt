@@ -2,48 +2,50 @@
 -- there from a source.
 use mathlib.Core.Bool.{true, false}
 use native.Mathlib.Omega.{arith}
-use Rattle.flow.proofs.Roots.{Roots, root_of, searching, roots-apart}
-use Rattle.flow.proofs.Rounding.{rooted-pair, meets-at, meets-nothing, first-sendable, second-sendable}
-use Rattle.flow.proofs.Rounding.{between-sent, between-full}
+use borrow.Author.Rules.{rules}
+use Rattle.flow.specs.Meet.{Meets}
+use Rattle.flow.proofs.Roots.{Roots, root_of, two-roots, searching, roots-apart}
+use Rattle.flow.proofs.Rounding.{first-sendable, second-sendable, between-sent, between-full}
 use Rattle.flow.proofs.round.round_between.Goals as goal
+use Rattle.flow.proofs.round.round_between.Goals.{After-root_pair-2}
 
-pub search_between-found-requires : goal.search_between-found-requires
-search_between-found-requires c =
-    let a = c.args in
-    let r : Roots a.mate.now c.root_pair.new.order c.root_pair.new.trail 0 (root_of a.sources) =
-    rooted-pair a.sources a.trail.now c.requires.3 (omega arith) (omega arith) c.root_pair.ensures in
-    let s : Roots a.mate.now c.root_pair-2.new.order c.root_pair-2.new.trail 0 (root_of a.sinks) =
-    rooted-pair a.sinks a.back_trail.now c.requires.4 (omega arith) (omega arith) c.root_pair-2.ensures in
+-- the sources are the roots of the first search, and the sinks those of the second
+sources : (c : After-root_pair-2) → Roots c.args.mate.now false c.root_pair.new.self 0 (root_of c.args.sources)
+sources c =
+    rw (c.root_pair.ensures, c.begin.ensures) (two-roots _ false _ (search rules) _ (omega arith) (omega arith))
+
+sinks : (c : After-root_pair-2) → Roots c.args.mate.now true c.root_pair-2.new.self 0 (root_of c.args.sinks)
+sinks c =
+    rw (c.root_pair-2.ensures, c.begin-2.ensures) (two-roots _ true _ (search rules) _ (omega arith) (omega arith))
+
+pub search_between-requires : goal.search_between-requires
+search_between-requires c =
+    let planted = (goal.at.search_between-requires c).After-root_pair-2 in
+    let r = sources planted in
+    let s = sinks planted in
     let m = c.requires.0 in
     let b = c.requires.1 in
-    (searching r m false b, searching s m true b, roots-apart c.requires.2 r s)
+    (searching r m b, searching s m b, roots-apart c.requires.2 r s)
 
 pub returns-in_default : goal.returns-in_default
+unfolding Meets
 returns-in_default c =
-    let a = c.args in
-    let r : Roots a.mate.now c.root_pair.new.order c.root_pair.new.trail 0 (root_of a.sources) =
-    rooted-pair a.sources a.trail.now c.requires.3 (omega arith) (omega arith) c.root_pair.ensures in
-    let s : Roots a.mate.now c.root_pair-2.new.order c.root_pair-2.new.trail 0 (root_of a.sinks) =
-    rooted-pair a.sinks a.back_trail.now c.requires.4 (omega arith) (omega arith) c.root_pair-2.ensures in
-    let parted = meets-nothing c.in_default.is c.search_between-found.ensures in
-    (between-full r s parted, parted.grown.tree.long_trail, parted.grown_back.tree.long_trail)
+    let planted = (goal.at.returns-in_default c).After-root_pair-2 in
+    between-full (sources planted) (sinks planted) c.in_default.ensures
 
 pub augment-requires : goal.augment-requires
-augment-requires c = first-sendable (meets-at c.in-At.is c.search_between-found.ensures)
+unfolding Meets
+augment-requires c = first-sendable c.in-Some.ensures
 
 pub augment-requires-2 : goal.augment-requires-2
+unfolding Meets
 augment-requires-2 c =
-    second-sendable (meets-at c.in-At.is c.search_between-found.ensures) c.augment.ensures
+    let planted = (goal.at.augment-requires-2 c).After-root_pair-2 in
+    second-sendable c.in-Some.ensures c.augment.ensures (sinks planted).way
 
 pub returns : goal.returns
+unfolding Meets
 returns c =
-    let a = c.args in
-    let r : Roots a.mate.now c.root_pair.new.order c.root_pair.new.trail 0 (root_of a.sources) =
-    rooted-pair a.sources a.trail.now c.requires.3 (omega arith) (omega arith) c.root_pair.ensures in
-    let s : Roots a.mate.now c.root_pair-2.new.order c.root_pair-2.new.trail 0 (root_of a.sinks) =
-    rooted-pair a.sinks a.back_trail.now c.requires.4 (omega arith) (omega arith) c.root_pair-2.ensures in
-    let met = meets-at c.in-At.is c.search_between-found.ensures in (
-      between-sent met c.augment.ensures r s c.augment-2.ensures,
-      met.grown.tree.long_trail,
-      met.grown_back.tree.long_trail,
-    )
+    let planted = (goal.at.returns c).After-root_pair-2 in
+    let s = sinks planted in
+    between-sent c.in-Some.ensures c.augment.ensures s.way (sources planted) s c.augment-2.ensures

@@ -1,32 +1,31 @@
 -- `flow::round::round_to` meets its contract: a search from the vertex, and a unit sent where it comes to a marked one.
 use mathlib.Core.Bool.{false}
 use native.Mathlib.Omega.{arith}
-use Rattle.flow.proofs.Roots.{Roots, searching}
-use Rattle.flow.proofs.Rounding.{rooted-one, one-apart, finds-at, finds-nothing, to-sendable, to-sent, to-full}
+use borrow.Author.Rules.{rules}
+use Rattle.flow.specs.Meet.{Finds}
+use Rattle.flow.proofs.Roots.{Roots, one-root, searching}
+use Rattle.flow.proofs.Rounding.{one-apart, to-sendable, to-sent, to-full}
 use Rattle.flow.proofs.round.round_to.Goals as goal
+use Rattle.flow.proofs.round.round_to.Goals.{After-root}
+
+-- the vertex is the only root
+only-root : (c : After-root) → Roots c.args.mate.now false c.root.new.self 1 (λ _. c.args.source)
+only-root c = rw (c.root.ensures, c.begin.ensures) (one-root _ false _ (search rules) _ (omega arith))
 
 pub search_to-requires : goal.search_to-requires
 search_to-requires c =
-    let r : Roots c.args.mate.now c.root.new.order c.root.new.trail 1 (λ _. c.args.source) =
-    rooted-one c.args.trail.now c.requires.3 (omega arith) c.root.ensures in
-    (searching r c.requires.0 false c.requires.1, one-apart c.args.marks.now r c.requires.2)
+    let r = only-root (goal.at.search_to-requires c).After-root in
+    (searching r c.requires.0 c.requires.1, one-apart c.args.marks.now r c.requires.2)
 
 pub returns-in_default : goal.returns-in_default
+unfolding Finds
 returns-in_default c =
-    let r : Roots c.args.mate.now c.root.new.order c.root.new.trail 1 (λ _. c.args.source) =
-    rooted-one c.args.trail.now c.requires.3 (omega arith) c.root.ensures in
-    let over = finds-nothing c.in_default.is c.search_to.ensures in
-    (to-full r c.requires.1 over, over.grown.tree.long_trail)
+    to-full (only-root (goal.at.returns-in_default c).After-root) c.requires.1 c.in_default.ensures
 
 pub augment-requires : goal.augment-requires
-augment-requires c =
-    let r : Roots c.args.mate.now c.root.new.order c.root.new.trail 1 (λ _. c.args.source) =
-    rooted-one c.args.trail.now c.requires.3 (omega arith) c.root.ensures in
-    to-sendable r (finds-at c.in-At.is c.search_to.ensures)
+unfolding Finds
+augment-requires c = to-sendable (only-root (goal.at.augment-requires c).After-root) c.in-Some.ensures
 
 pub returns : goal.returns
-returns c =
-    let r : Roots c.args.mate.now c.root.new.order c.root.new.trail 1 (λ _. c.args.source) =
-    rooted-one c.args.trail.now c.requires.3 (omega arith) c.root.ensures in
-    let met = finds-at c.in-At.is c.search_to.ensures in
-    (to-sent r met c.augment.ensures, met.grown.tree.long_trail)
+unfolding Finds
+returns c = to-sent (only-root (goal.at.returns c).After-root) c.in-Some.ensures c.augment.ensures

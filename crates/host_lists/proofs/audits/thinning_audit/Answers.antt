@@ -1,14 +1,28 @@
 -- `host_lists::audits::thinning_audit` meets its contract.
-use mathlib.Core.Path.{refl}
-use Rattle.host_lists.proofs.Numbers.{audit-refused, audit-answered}
+use mathlib.Core.Path.{◌∙◌, ap}
+use Rattle.base.specs.Answer.{refusal_of, number_given}
 use Rattle.host_lists.proofs.audits.thinning_audit.Goals as goal
 
-pub returns-in-Refused : goal.returns-in-Refused
-returns-in-Refused c =
-    let n = audit-refused _ c.in-Refused.number refl c.in-Refused.ensures c.args.connected.now c.args.reached.now c.args.critical.now in
-    record { number = n.0; connected = n.1.0; reached = n.1.1.0; critical = n.1.1.1 }
+pub returns-in-Ok : goal.returns-in-Ok
+unfolding refusal_of number_given
+returns-in-Ok c =
+    let e = c.in-Ok.ensures in
+    let a = c.args in
+    record {
+      number = ap refusal_of e;
+      connected = ap (λ r. number_given (λ m. m.connected) r a.connected.now) e;
+      reached = ap (λ r. number_given (λ m. m.reached) r a.reached.now) e;
+      critical = ap (λ r. number_given (λ m. m.bridges) r a.critical.now) e;
+    }
 
-pub returns-in-Answered : goal.returns-in-Answered
-returns-in-Answered c =
-    let n = audit-answered _ c.in-Answered.answers refl c.in-Answered.ensures c.args.connected.now c.args.reached.now c.args.critical.now in
-    record { number = n.0; connected = n.1.0; reached = n.1.1.0; critical = n.1.1.1 }
+pub returns-in-Err : goal.returns-in-Err
+unfolding refusal_of number_given
+returns-in-Err c =
+    let e = c.in-Err.ensures in
+    let a = c.args in
+    record {
+      number = c.number.ensures ∙ ap refusal_of e;
+      connected = ap (λ r. number_given (λ m. m.connected) r a.connected.now) e;
+      reached = ap (λ r. number_given (λ m. m.reached) r a.reached.now) e;
+      critical = ap (λ r. number_given (λ m. m.bridges) r a.critical.now) e;
+    }

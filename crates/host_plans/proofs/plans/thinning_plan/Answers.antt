@@ -1,15 +1,21 @@
 -- `host_plans::plans::thinning_plan` meets its contract.
-use Rattle.host_plans.proofs.Numbers.{plan-refused, plan-written}
+use mathlib.Core.Path.{◌∙◌, ap}
+use Rattle.base.specs.Answer.{refusal_of, number_given}
+use Rattle.host_plans.proofs.Numbers.{planned-number, planned-chain, planned-kept}
 use Rattle.host_plans.proofs.plans.thinning_plan.Goals as goal
 
-pub returns-in-Refused : goal.returns-in-Refused
-returns-in-Refused c =
+pub returns : goal.returns
+returns c =
     let e = c.plan.ensures in
-    let n = plan-refused _ _ c.in-Refused.is e.reply _ _ in
-    record { number = n.0; chain = e.chain; kept = e.kept; chain_written = n.1.0; kept_written = n.1.1 }
-
-pub returns-in-Written : goal.returns-in-Written
-returns-in-Written c =
-    let e = c.plan.ensures in
-    let n = plan-written _ _ _ c.in-Written.is e.reply _ _ in
-    record { number = n.0; chain = e.chain; kept = e.kept; chain_written = n.1.0; kept_written = n.1.1 }
+    let a = c.args in
+    record {
+      number = c.give_lengths.ensures.number ∙ ap refusal_of e.reply ∙ planned-number _;
+      chain = e.chain;
+      kept = e.kept;
+      chain_written = c.give_lengths.ensures.chain_written
+          ∙ ap (λ r. number_given (λ lengths. lengths.chain) r a.chain_written.now) e.reply
+          ∙ planned-chain _ _;
+      kept_written = c.give_lengths.ensures.kept_written
+          ∙ ap (λ r. number_given (λ lengths. lengths.kept) r a.kept_written.now) e.reply
+          ∙ planned-kept _ _;
+    }

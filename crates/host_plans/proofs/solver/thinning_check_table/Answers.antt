@@ -1,9 +1,8 @@
 -- `host_plans::solver::thinning_check_table` meets its contract.
-use Rattle.host_plans.proofs.Numbers.{network-refused, network-accepted}
+use mathlib.Core.Path.{◌∙◌, ap}
+use Rattle.base.specs.Answer.{refusal_of}
+use Rattle.host_plans.proofs.Numbers.{accepted-number}
 use Rattle.host_plans.proofs.solver.thinning_check_table.Goals as goal
 
-pub returns-in-Refused : goal.returns-in-Refused
-returns-in-Refused c = network-refused _ _ c.in-Refused.is c.check_table.ensures
-
-pub returns-in-Accepted : goal.returns-in-Accepted
-returns-in-Accepted c = network-accepted _ c.in-Accepted.is c.check_table.ensures
+pub returns : goal.returns
+returns c = c.give_out.ensures.number ∙ ap refusal_of c.check_table.ensures ∙ accepted-number _

@@ -1,34 +1,18 @@
--- `incidence::degrees::all_four` meets its contract: each vertex passed has degree 4.
-use mathlib.Core.Path.{◌≡◌, refl, sym}
-use native.Mathlib.Omega.{arith}
-use borrow.Author.Tests.{eq-eqb, ne_eqb}
-use Rattle.base.specs.Fold.{fold}
-use Rattle.base.proofs.Sums.{each_more, each-false}
+-- `incidence::degrees::all_four` meets its contract: the tally of each of the first vertices is looked at.
+use mathlib.Core.Bool.{Bool}
+use Prim.Native.Nat.{ℕ}
+use Rattle.std.proofs.Common.{eqb, ◌∙◌, rules, tests, arith}
+use Rattle.std.proofs.lemmas.Iterator.{YieldsList-from_slice}
+use Rattle.std.proofs.lemmas.Iterator.Search.{all_from_yields_List}
+use Rattle.incidence.proofs.Tally.{each-first}
 use Rattle.incidence.proofs.degrees.all_four.Goals as goal
 
-pub loop-v-init : goal.loop-v-init
-unfolding fold
-loop-v-init c = (omega arith, refl)
-
-pub offset_bounds-tally-v : goal.offset_bounds-tally-v
-offset_bounds-tally-v c = omega arith
-
-pub bounds-tally-v : goal.bounds-tally-v
-bounds-tally-v c = omega arith
-
-pub returns-then-tally-v-ne4 : goal.returns-then-tally-v-ne4
-returns-then-tally-v-ne4 c = sym (each-false _ _ _ c.loop-v-test.true (ne_eqb _ 4 c.if-tally-v-ne4.true))
-
-pub overflow_add-v : goal.overflow_add-v
-overflow_add-v c = omega arith
-
-pub loop-v-smaller : goal.loop-v-smaller
-loop-v-smaller c = omega arith
-
-pub loop-v-preserved : goal.loop-v-preserved
-loop-v-preserved c = (omega arith, each_more _ _ c.loop-v.invariant.1 (eq-eqb _ 4 c.if-tally-v-ne4.false))
+four : ℕ → Bool
+four d = eqb d 4
 
 pub returns : goal.returns
+unfolding four
 returns c =
-    let e : c.loop-v.v ≡ c.args.vertices =
-    omega arith in sym (rw e at c.loop-v.invariant.1)
+    all_from_yields_List four _ _ c.all.result c.all.ensures.ran
+    (YieldsList-from_slice _ c.iter.ensures.rest) (λ x b q k. search (rules, tests))
+    ∙ each-first four c.args.vertices _ (omega arith)

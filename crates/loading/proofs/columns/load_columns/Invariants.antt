@@ -1,5 +1,4 @@
--- What the loops of `loading::columns::load_columns` keep, and that they end.
-use Prim.Native.Nat.{◌*◌, ◌-◌}
+-- What the loop of `loading::columns::load_columns` keeps.
 use Rattle.network_text.specs.Text.{meant}
 use Rattle.loading.proofs.Filling.{Stored}
 use Rattle.loading.proofs.columns.load_columns.Given as goal
@@ -7,6 +6,3 @@ use Rattle.loading.proofs.columns.load_columns.Given as goal
 abbrev pub invariant-loop-i : goal.invariant-loop-i
 invariant-loop-i l =
     Stored (meant l.vertices l.reserved l.low l.high l.cost) l.network l.degrees l.i
-
-abbrev pub decreases-loop-i : goal.decreases-loop-i
-decreases-loop-i l = 2 * l.vertices - l.i

@@ -1,57 +1,42 @@
 -- `loading::list::load_list` meets its contract.
-use mathlib.Core.Path.{◌≡◌, refl, sym, ◌∙◌, ap}
-use Rattle.graph.specs.declared.Network.{Network}
-use Rattle.base.specs.Answer.{answer}
-use Rattle.loading.specs.Loading.{load_network}
+use mathlib.Core.Path.{◌≡◌, refl, sym}
+use borrow.Author.Rules.{rules}
+use Rattle.std.proofs.Common.{Err}
 use Rattle.loading.specs.ListLoading.{loaded_list_of}
-use Rattle.loading.proofs.Reading.{load-numbered, loaded-zero, loaded-refused}
 use Rattle.loading.proofs.ListReading.{Listed, list-refused, list_read, listed-markable, network-refused}
-use Rattle.loading.proofs.ListReading.{network-room, listing-refused, list-loaded}
+use Rattle.loading.proofs.ListReading.{listing-refused, list-loaded}
 use Rattle.loading.proofs.list.load_list.Goals as goal
+use Rattle.loading.proofs.list.load_list.Goals.{In_ok-count}
 
-pub returns-then-refusal-gt0 : goal.returns-then-refusal-gt0
-returns-then-refusal-gt0 c =
+-- the edges that were read
+listed : (c : In_ok-count) → Listed c.in_ok-loaded.loaded.network.vertices c.args.list.now c.read_list.new.edges c.in_ok-count.count
+listed c =
+    let replied = c.in_ok-count.ensures in
+    list_read c.in_ok-loaded.loaded.network.vertices c.args.list.now _ refl replied.0 replied.1
+
+pub returns-in_err-loaded : goal.returns-in_err-loaded
+unfolding loaded_list_of
+returns-in_err-loaded c =
     let a = c.args in
-    let no-network = loaded-refused _ (load-numbered _) c.load-loaded.ensures c.if-refusal-gt0.true in
-    c.refuse.ensures ∙ ap loaded_list_of (sym (network-refused a.network.now a.list.now _ no-network))
+    let e : c.from_residual.result ≡ Err c.in_err-loaded.field-0.0 = search rules in
+    rw (e, network-refused a.network.now a.list.now _ (sym c.in_err-loaded.ensures))
+
+pub returns-in_err-count : goal.returns-in_err-count
+unfolding loaded_list_of
+returns-in_err-count c =
+    let a = c.args in
+    let network = c.in_ok-loaded.loaded.network in
+    let e : c.from_residual-in_err-count.result ≡ Err c.in_err-count.field-0.0 = search rules in
+    let refused = list-refused network.vertices a.list.now _ refl c.in_err-count.ensures.0 in
+    rw (e, listing-refused a.network.now a.list.now network (sym c.in_ok-loaded.ensures) _ refused)
 
 pub mark-requires : goal.mark-requires
 mark-requires c =
-    let network : Network =
-    c.load-loaded.result.network in
-    let loaded : load_network c.args.network.now ≡ answer network =
-    loaded-zero _ (load-numbered _) c.load-loaded.ensures c.if-refusal-gt0.false in
-    let listed : Listed network.vertices c.args.list.now c.read_list.new.edges c.in-Done.count =
-    let replied = c.read_list.ensures in
-    list_read network.vertices c.args.list.now _ refl c.read_list.result _ _ replied.0
-    replied.1
-    c.in-Done.is in
-    let a = c.args in
-    listed-markable listed (network-room a.network.now a.list.now network loaded) refl
+    listed-markable (listed (goal.at.mark-requires c).In_ok-count) c.in_ok-loaded.loaded.known.vertex_room refl
 
-pub returns-in-Refused : goal.returns-in-Refused
-returns-in-Refused c =
-    let network : Network =
-    c.load-loaded.result.network in
-    let loaded : load_network c.args.network.now ≡ answer network =
-    loaded-zero _ (load-numbered _) c.load-loaded.ensures c.if-refusal-gt0.false in
-    let a = c.args in
-    let no-list = list-refused network.vertices a.list.now _ refl c.read_list.result _
-    c.read_list.ensures.0 c.in-Refused.is in
-    let refused = listing-refused a.network.now a.list.now network loaded _ no-list in
-    c.refuse-in-Refused.ensures ∙ ap loaded_list_of (sym refused)
-
-pub returns-in-Done : goal.returns-in-Done
+pub returns : goal.returns
 unfolding loaded_list_of
-returns-in-Done c =
-    let network : Network =
-    c.load-loaded.result.network in
-    let loaded : load_network c.args.network.now ≡ answer network =
-    loaded-zero _ (load-numbered _) c.load-loaded.ensures c.if-refusal-gt0.false in
-    let listed : Listed network.vertices c.args.list.now c.read_list.new.edges c.in-Done.count =
-    let replied = c.read_list.ensures in
-    list_read network.vertices c.args.list.now _ refl c.read_list.result _ _ replied.0
-    replied.1
-    c.in-Done.is in
+returns c =
     let a = c.args in
-    rw (list-loaded a.network.now a.list.now network loaded _ listed.is c.mark.ensures)
+    let l = listed (goal.at.returns c).In_ok-count in
+    rw (list-loaded a.network.now a.list.now c.in_ok-loaded.loaded.network (sym c.in_ok-loaded.ensures) _ l.is c.mark.ensures)

@@ -1,7 +1,6 @@
 -- `network_text::network::put_network` meets its contract.
 use Prim.Native.Nat.{◌+◌, ◌*◌, ◌≤◌}
 use native.Mathlib.Omega.{arith}
-use lib.Dec.{lit<}
 use lib.ListN.{length, length-drop}
 use Rattle.frame.specs.Table.{EDGE, line_length}
 use Rattle.base.proofs.Parts.{tail-part}
@@ -11,21 +10,15 @@ use Rattle.network_text.proofs.network.put_network.Goals as goal
 
 pub put_line-at-requires : goal.put_line-at-requires
 unfolding network_length
-put_line-at-requires c = (lit< tt, omega (arith, c.requires.1))
+put_line-at-requires c = omega (arith, c.requires.1)
 
 pub slice_bounds-put_edges-count : goal.slice_bounds-put_edges-count
 unfolding network_length
-slice_bounds-put_edges-count c =
-    let behind : c.put_line-at.result + 2 * c.args.vertices * line_length EDGE ≤ length c.put_line-at.new.out =
-    omega (arith, c.put_line-at.ensures.0, c.put_line-at.auto.out, c.requires.1) in
-    omega (arith, behind)
+slice_bounds-put_edges-count c = omega (arith, c.put_line-at.ensures.0, c.put_line-at.auto.out, c.requires.1)
 
 pub slice_bounds-put_edges-start : goal.slice_bounds-put_edges-start
 unfolding network_length
-slice_bounds-put_edges-start c =
-    let behind : c.put_line-at.result + 2 * c.args.vertices * line_length EDGE ≤ length c.put_line-at.new.out =
-    omega (arith, c.put_line-at.ensures.0, c.put_line-at.auto.out, c.requires.1) in
-    omega (arith, behind)
+slice_bounds-put_edges-start c = omega (arith, c.put_line-at.ensures.0, c.put_line-at.auto.out, c.requires.1)
 
 pub put_edges-requires : goal.put_edges-requires
 unfolding network_length

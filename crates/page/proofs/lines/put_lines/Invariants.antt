@@ -1,5 +1,5 @@
--- What the loops of `page::lines::put_lines` keep, and that they end.
-use Prim.Native.Nat.{◌-◌, ◌≤◌}
+-- What the loop of `page::lines::put_lines` keeps.
+use Prim.Native.Nat.{◌-◌}
 use Rattle.base.specs.Fold.{pick}
 use Rattle.base.proofs.Writing.{Written}
 use Rattle.kept_text.specs.Text.{is_kept, kept_edges}
@@ -8,9 +8,5 @@ use Rattle.page.proofs.lines.put_lines.Given as goal
 
 abbrev pub invariant-loop-edge : goal.invariant-loop-edge
 invariant-loop-edge l =
-    (l.edge ≤ l.edges)
-    × Written (edge_lines l.network (kept_edges l.edges l.listed))
-    (edge_lines l.network (pick (l.edges - l.edge) l.edge (is_kept l.listed))) l.initial.page l.page l.at
-
-abbrev pub decreases-loop-edge : goal.decreases-loop-edge
-decreases-loop-edge l = l.edges - l.edge
+    Written (edge_lines l.network (kept_edges l.network.edges l.listed))
+    (edge_lines l.network (pick (l.network.edges - l.edge) l.edge (is_kept l.listed))) l.initial.page l.page l.at

@@ -1,12 +1,8 @@
--- What the loops of `ports::star::port_at` keep, and that they end.
+-- What the loop of `ports::star::port_at` keeps: the ports passed have another edge.
 use mathlib.Core.Path.{◌≡◌}
-use Prim.Native.Nat.{ℕ, ◌+◌, ◌-◌, ◌≤◌, ◌<◌}
+use Prim.Native.Nat.{ℕ, ◌≤◌, ◌<◌}
 use Rattle.base.specs.Columns.{at}
-use Rattle.ports.specs.Ports.{ports_each}
 use Rattle.ports.proofs.star.port_at.Given as goal
 
-abbrev pub invariant-loop-k : goal.invariant-loop-k
-invariant-loop-k l = (l.k ≤ ports_each) × ((i : ℕ) → i < l.k → at l.edge (l.start + i) ≡ l.e → ⊥)
-
-abbrev pub decreases-loop-k : goal.decreases-loop-k
-decreases-loop-k l = ports_each - l.k
+abbrev pub invariant-loop-port : goal.invariant-loop-port
+invariant-loop-port l = (p : ℕ) → l.start ≤ p → p < l.port → at l.edge p ≡ l.e → ⊥

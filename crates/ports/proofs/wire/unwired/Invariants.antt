@@ -1,13 +1,8 @@
--- What the loops of `ports::wire::unwired` keep, and that they end.
+-- What the loop of `ports::wire::unwired` keeps: every port passed is its own mate.
 use mathlib.Core.Path.{◌≡◌}
-use Prim.Native.Nat.{ℕ, ◌-◌, ◌≤◌, ◌<◌}
-use lib.ListN.{length}
+use Prim.Native.Nat.{ℕ, ◌<◌}
 use Rattle.base.specs.Columns.{at}
-use Rattle.ports.specs.Ports.{port_limit}
 use Rattle.ports.proofs.wire.unwired.Given as goal
 
 abbrev pub invariant-loop-port : goal.invariant-loop-port
-invariant-loop-port l = (l.port ≤ port_limit) × (length l.mate ≡ port_limit) × ((p : ℕ) → p < l.port → at l.mate p ≡ p)
-
-abbrev pub decreases-loop-port : goal.decreases-loop-port
-decreases-loop-port l = port_limit - l.port
+invariant-loop-port l = (p : ℕ) → p < l.port → at l.mate-items p ≡ p

@@ -7,34 +7,37 @@ use Rattle.graph.proofs.Rules.{ending-ruled}
 use Rattle.rules.specs.Endings.{chosen_ending}
 use Rattle.rules.proofs.Ends.{Two, two-of}
 use Rattle.rules.proofs.planner.plan_ending.Goals as goal
+use Rattle.rules.proofs.planner.plan_ending.Goals.{After-chosen_ending-ending}
+
+-- the two edges that are kept, and the dropped one
+kept : (c : After-chosen_ending-ending) → let e = c.chosen_ending-ending.result in
+    let passes = chosen-drop-passes c.requires.0.run.sound c.requires.0.two in
+    Two c.requires.0 (chosen_drop c.args.network) passes e.low e.high
+unfolding chosen_ending
+kept c =
+    two-of c.requires.0 (chosen_drop c.args.network) (chosen-drop-passes c.requires.0.run.sound c.requires.0.two) _ _
+    (ap (λ d. d.low) c.chosen_ending-ending.ensures) (ap (λ d. d.high) c.chosen_ending-ending.ensures)
+
+dropped-is : (c : After-chosen_ending-ending) → c.chosen_ending-ending.result.dropped ≡ chosen_drop c.args.network
+unfolding chosen_ending
+dropped-is c = ap (λ d. d.dropped) c.chosen_ending-ending.ensures
 
 pub mark_two-requires : goal.mark_two-requires
-unfolding chosen_ending
-mark_two-requires c =
-    let kept : let e = c.chosen_ending-ending.result in Two c.requires.0 (chosen_drop c.args.network) (chosen-drop-passes c.requires.0.run.sound c.requires.0.two) e.low e.high =
-    two-of c.requires.0 (chosen_drop c.args.network) (chosen-drop-passes c.requires.0.run.sound c.requires.0.two) _ _
-    (ap (λ d. d.low) c.chosen_ending-ending.ensures) (ap (λ d. d.high) c.chosen_ending-ending.ensures) in
-    let w = kept in (c.requires.1, w.low_below, w.high_below)
+mark_two-requires c = let w = kept (goal.at.mark_two-requires c).After-chosen_ending-ending in (c.requires.1, w.low_below, w.high_below)
 
 pub overflow_cast-result : goal.overflow_cast-result
-unfolding chosen_ending
 overflow_cast-result c =
-    let dropped-is : c.chosen_ending-ending.result.dropped ≡ chosen_drop c.args.network =
-    ap (λ d. d.dropped) c.chosen_ending-ending.ensures in
+    let is = dropped-is (goal.at.overflow_cast-result c).After-chosen_ending-ending in
     let d = chosen_drop c.args.network in
     let below =
     (ending-ruled c.args.network d (chosen-drop-passes c.requires.0.run.sound c.requires.0.two)).one.number in
-    record { fits = omega (arith, below, c.requires.0.run.edge_room, dropped-is) }
+    record { fits = omega (arith, below, c.requires.0.run.edge_room, is) }
 
 pub returns : goal.returns
-unfolding plan_drop plan_kept chosen_ending
+unfolding plan_drop plan_kept
 returns c =
-    let kept : let e = c.chosen_ending-ending.result in Two c.requires.0 (chosen_drop c.args.network) (chosen-drop-passes c.requires.0.run.sound c.requires.0.two) e.low e.high =
-    two-of c.requires.0 (chosen_drop c.args.network) (chosen-drop-passes c.requires.0.run.sound c.requires.0.two) _ _
-    (ap (λ d. d.low) c.chosen_ending-ending.ensures) (ap (λ d. d.high) c.chosen_ending-ending.ensures) in
-    let dropped-is : c.chosen_ending-ending.result.dropped ≡ chosen_drop c.args.network =
-    ap (λ d. d.dropped) c.chosen_ending-ending.ensures in
+    let at = (goal.at.returns c).After-chosen_ending-ending in
     record {
-      dropped = dropped-is;
-      marks = c.mark_two.ensures ∙ sym kept.marks_are;
+      dropped = dropped-is at;
+      marks = c.mark_two.ensures ∙ sym (kept at).marks_are;
     }

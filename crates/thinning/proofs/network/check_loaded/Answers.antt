@@ -1,10 +1,13 @@
 -- `thinning::network::check_loaded` meets its contract.
-use Rattle.loading.proofs.Reading.{loaded-zero, loaded-refused}
-use Rattle.claim.proofs.Accepting.{answered-refused, answered-accepted, loaded-numbered}
+use mathlib.Core.Path.{◌≡◌, sym}
+use Rattle.std.proofs.Common.{rules, Err}
+use Rattle.claim.proofs.Accepting.{answered-refused, answered-accepted}
 use Rattle.thinning.proofs.network.check_loaded.Goals as goal
 
-pub returns-then-refusal-gt0 : goal.returns-then-refusal-gt0
-returns-then-refusal-gt0 c = answered-refused _ _ (loaded-refused _ (loaded-numbered _) c.accept-accepted.ensures c.if-refusal-gt0.true)
+pub returns-in_err-accept : goal.returns-in_err-accept
+returns-in_err-accept c =
+    let e : c.from_residual.result ≡ Err c.in_err-accept.field-0.0 = search rules in
+    rw e (answered-refused _ _ (sym c.in_err-accept.ensures))
 
 pub returns : goal.returns
-returns c = answered-accepted _ _ (loaded-zero _ (loaded-numbered _) c.accept-accepted.ensures c.if-refusal-gt0.false)
+returns c = answered-accepted _ _ (sym c.in_ok-accept.ensures)

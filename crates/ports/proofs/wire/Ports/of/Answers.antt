@@ -1,41 +1,23 @@
--- `ports::wire::Ports::of` meets its contract: the edges passed are plugged in.
+-- `ports::wire::Ports::of` meets its contract.
 use mathlib.Core.Path.{◌≡◌}
 use native.Mathlib.Omega.{arith}
 use Rattle.ports.proofs.Wiring.{plugged-none, low_left, high_left, ports-below, plugged-next, plugged-all}
 use Rattle.ports.proofs.wire.Ports.of.Goals as goal
 
-pub unwired-mate-requires : goal.unwired-mate-requires
-unwired-mate-requires c = tt
-
 pub loop-e-init : goal.loop-e-init
 loop-e-init c = rw c.unwired-mate.ensures (plugged-none c.args.network)
-
-pub bounds-network-e : goal.bounds-network-e
-bounds-network-e c = omega (arith, c.requires.edge_room)
 
 pub next_port-a-requires : goal.next_port-a-requires
 next_port-a-requires c = low_left c.requires c.loop-e.invariant (omega arith)
 
-pub bounds-network-e-in-loop-e : goal.bounds-network-e-in-loop-e
-bounds-network-e-in-loop-e c = omega (arith, c.requires.edge_room)
-
 pub next_port-b-requires : goal.next_port-b-requires
 next_port-b-requires c = rw c.next_port-a.ensures.used (high_left c.requires c.loop-e.invariant (omega arith))
-
-pub overflow_cast-e : goal.overflow_cast-e
-overflow_cast-e c = omega (arith, c.requires.edge_room)
 
 pub plug-requires : goal.plug-requires
 plug-requires c =
     ports-below c.requires c.loop-e.invariant (omega arith)
     c.next_port-a.ensures.port
     c.next_port-a.ensures.used c.next_port-b.ensures.port
-
-pub overflow_add-e : goal.overflow_add-e
-overflow_add-e c = omega arith
-
-pub loop-e-smaller : goal.loop-e-smaller
-loop-e-smaller c = omega arith
 
 pub loop-e-preserved : goal.loop-e-preserved
 loop-e-preserved c =
