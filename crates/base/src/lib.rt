@@ -1,4 +1,5 @@
-// What every crate stands on: refusals by their numbers, the limits of a network and of its texts, columns.
+// What every crate stands on: refusals by their numbers, what an export gives of a result, the limits of a network and of
+// its texts, columns.
 #![tactic(auto)]
 
 mod column;

@@ -9,8 +9,9 @@ use base::VERTEX_LIMIT;
 use ports::{PORT_LIMIT, PORTS};
 use std::ops::ControlFlow;
 
-// What a search has found: the number of each vertex that is reached, the port by which each number was reached, and the
-// last number given. It goes the way that units go, or back: a field says so, as a const parameter is a number in proofs.
+// What a search has found: the number of each vertex that is reached, the port by which each number was reached, and
+// the last number given. It goes the way that units go, or back: a field says so, as a const parameter is a number in
+// proofs.
 #[derive(Drop)]
 pub struct Reach {
     pub back: bool,

@@ -14,9 +14,9 @@ ghost use Rattle.graph.specs.declared.Network.{Network};
 
 pub use kept::{Kept, lift_marks};
 
-// A network by value: edge e joins low[e] and high[e] at a working cost. The definitions and theorems name these
-// columns.
+// A network by value: edge e joins low[e] and high[e] at a working cost.
 // A retired edge is a loop at the vertex that left, at cost 0, so it crosses no cut and costs nothing.
+// The columns stand apart, as the definitions and theorems name them.
 #[derive(Clone, Copy)]
 pub struct Network {
     pub low: [u8; EDGE_LIMIT],
