@@ -11,7 +11,7 @@
  * nobody else writes what it is given, or reads what it writes.
  *
  * thinning_plan, thinning_plan_candidates, thinning_plan_table, thinning_check_chain and thinning_reasons go as deep as
- * there are vertices: at 256 vertices the three planners take 1.45 MB of stack, the chain check 1.47 MB and the reasons
+ * there are vertices: at 256 vertices the three planners take 1.46 MB of stack, the chain check 1.47 MB and the reasons
  * 1.48 MB, measured by the command ./stack.
  *
  * The refusals:

@@ -12,6 +12,7 @@ use loading::load_list;
 pub fn audit_list(network: &[u8], list: &[u8]) -> Result<Answers, Refusal>
     ensures { told result ≡ audit_text network.now list.now }
 {
-    let loaded = load_list(network, list)?;
+    let answer = load_list(network, list);
+    let loaded = answer?;
     Ok(audit(loaded.network, loaded.listed))
 }

@@ -30,10 +30,14 @@ number_of refusal.Weight = WEIGHT
 number_of refusal.Total = TOTAL
 number_of refusal.NotGiven = NOT_GIVEN
 
--- what a result tells: the answer, or the refusal by its number
+-- what a result tells where refusals have these numbers: the answer, or the refusal by its number
+abbrev pub told_by : {M E : Type 0} → (E → ℕ) → Result M E → Answer M
+told_by number (Ok m) = answer m
+told_by number (Err r) = refused (number r)
+
+-- and what it tells of this core's refusals
 abbrev pub told : {M : Type 0} → Result M Refusal → Answer M
-told (Ok m) = answer m
-told (Err r) = refused (number_of r)
+told r = told_by number_of r
 
 -- an answer made of another, where that is no refusal
 unfoldable pub and_then : {M N : Type 0} → Answer M → (M → Answer N) → Answer N

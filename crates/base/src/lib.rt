@@ -1,5 +1,5 @@
-// What every crate stands on: refusals by their numbers, what an export gives of a result, the limits of a network and of
-// its texts, columns.
+// What every crate stands on: refusals by their numbers, and what else a service refuses with; what an export gives of a
+// result, the limits of a network and of its texts, columns.
 #![tactic(auto)]
 
 mod column;
@@ -7,6 +7,7 @@ mod exports;
 mod lengths;
 mod limits;
 mod refusals;
+mod refusing;
 
 pub use column::copy;
 pub use exports::give_out;
@@ -15,3 +16,4 @@ pub use limits::{
     COST_LIMIT, EDGE_LIMIT, FEWEST_VERTICES, STEP_LIMIT, VERTEX_LIMIT, cost_ok, vertices_ok,
 };
 pub use refusals::Refusal;
+pub use refusing::Refuses;

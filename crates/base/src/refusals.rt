@@ -1,5 +1,5 @@
 // The refusals, by the numbers of documents 01 and 02.
-ghost use Rattle.std.specs.Prelude.{◌≡◌};
+ghost use Rattle.std.specs.Prelude.{◌≡◌, ◌++◌, Some, codes, decimal};
 ghost use Rattle.base.specs.Answer.{number_of};
 
 use std::error::Error;
@@ -53,7 +53,10 @@ impl Refusal {
     }
 }
 
+// Written as "refused " and its number in base ten.
 impl fmt::Display for Refusal {
+    ghost output = { λ refusal. Some (codes "refused " ++ decimal (number_of refusal)) };
+
     fn fmt<W: fmt::Write>(&self, f: &mut fmt::Formatter<W>) -> fmt::Result {
         write!(f, "refused {}", self.number())
     }

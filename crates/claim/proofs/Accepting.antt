@@ -2,7 +2,7 @@
 use mathlib.Core.Path.{◌≡◌, refl, ◌∙◌, ap}
 use mathlib.Core.Bool.{Bool, true, false}
 use mathlib.Core.List.{List}
-use Rattle.std.proofs.Common.{Result, Ok, Err}
+use Rattle.std.proofs.Common.{Result}
 use Prim.Native.Nat.{ℕ, ◌-◌, ◌≤◌}
 use native.Mathlib.Omega.{arith}
 use lib.ListN.{length}
@@ -15,10 +15,10 @@ use Rattle.network_text.specs.Text.{Meaning, read_network}
 use Rattle.base.specs.Refusals.{DEGREE, CUT}
 use Rattle.base.proofs.Numbered.{Numbered, answered, unless-numbered, then-meeting, numbered-up}
 use Rattle.loading.specs.Known.{Known}
-use Rattle.loading.specs.Loading.{network_of, load_network, loaded_answer}
+use Rattle.loading.specs.Loading.{network_of, load_network, loaded_by, loaded_answer}
 use Rattle.base.specs.declared.refusals.Refusal.{Refusal}
 use Rattle.loading.specs.declared.loaded.Loaded.{Loaded}
-use Rattle.loading.proofs.Reading.{known-light, loaded-read, load-numbered, loaded-known}
+use Rattle.loading.proofs.Reading.{known-light, loaded-read, load-numbered, loaded-known, answer-ready}
 use Rattle.graph.specs.Cut.{every_cut, four_each, network_refusal}
 use Rattle.graph.specs.Network.{here}
 use Rattle.base.specs.Limits.{vertex_limit}
@@ -85,12 +85,9 @@ pub accepting-running : (a : Answer Network) → ((g : Network) → a ≡ answer
 accepting-running a known g e = let w = accepting-answered a g e in known-running (known g w.0) w.1
 
 -- and so one that was loaded does
-pub loaded-running : (l : Result Loaded Refusal) (g : Network) → accepting (loaded_answer l) ≡ answer g → Running g
-loaded-running l g e = accepting-running (loaded_answer l) (known l) g e
-  where
-    known : (l : Result Loaded Refusal) (g : Network) → loaded_answer l ≡ answer g → Known g
-    known (Ok l) g e = let w : l.network ≡ g = cc in rw w at l.known
-    known (Err r) g e = no_answer (cc)
+pub loaded-running : {E : Type 0} (number : E → ℕ) (l : Result Loaded E) (g : Network)
+    → accepting (loaded_by number l) ≡ answer g → Running g
+loaded-running number l g e = accepting-running (loaded_by number l) (λ g e. (answer-ready number l g e).3) g e
 
 -- the vertices of a running network are no more than there is room for
 pub running-few : {g : Network} → Running g → g.remaining ≤ vertex_limit

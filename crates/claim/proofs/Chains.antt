@@ -2,7 +2,7 @@
 use mathlib.Core.Path.{◌≡◌, refl, sym, ◌∙◌, ap}
 use mathlib.Core.Bool.{Bool, true, false}
 use mathlib.Core.List.{List, ◌∷◌}
-use Prim.Native.Nat.{ℕ, suc, ◌+◌, ◌-◌, ◌≤◌, ◌<◌}
+use Prim.Native.Nat.{ℕ, zero, suc, ◌+◌, ◌-◌, ◌≤◌, ◌<◌}
 use native.Mathlib.Omega.{arith}
 use lib.ListN.{length, drop}
 use lib.Seq.{drop-drop}
@@ -11,7 +11,7 @@ use Rattle.std.proofs.Common.{Err}
 use Rattle.base.specs.Answer.{Answer, answer, refused, told, number_of, unless, refusal_of, number_given}
 use Rattle.base.specs.Refusals.{FORM}
 use Rattle.base.specs.declared.refusals.Refusal.{Refusal}
-use Rattle.base.proofs.Answers.{number-above, unless-met}
+use Rattle.base.proofs.Answers.{number-above}
 use Rattle.frame.specs.Table.{STEP, DROPPED, line_length}
 use Rattle.frame.specs.Line.{is_line}
 use Rattle.base.specs.Limits.{edge_limit}
@@ -43,11 +43,15 @@ same-column (refused k) column = refl
 same-column (answer K) column = refl
 
 -- and the other way round
-pub was-refused : (w : Answer (List Bool)) (r : Refusal) → refusal_of {M = Unit} (told (Err r)) ≡ refusal_of w
-    → w ≡ refused (number_of r)
+pub was-refused : (w : Answer (List Bool)) {k : ℕ} → k ≡ refusal_of w → 0 < k → w ≡ refused k
 unfolding refusal_of
-was-refused (refused j) r e = ap refused (sym e)
-was-refused (answer K) r e = absurd (omega (arith, number-above r))
+was-refused (refused j) e l = ap refused (sym e)
+was-refused (answer K) e l = absurd (omega arith)
+
+-- so by what a function tells that met a refusal
+pub was-met : (w : Answer (List Bool)) (r : Refusal) → refusal_of {M = Unit} (told (Err r)) ≡ refusal_of w
+    → w ≡ refused (number_of r)
+was-met w r e = was-refused w (unfold refusal_of in e) (number-above r)
 
 pub was-kept : (w : Answer (List Bool)) → ((j : ℕ) → w ≡ refused j → 0 < j)
     → refusal_of {M = Unit} (answer tt) ≡ refusal_of w → (K : List Bool) × (w ≡ answer K)
@@ -73,10 +77,14 @@ module _ (g : Network) (t : List ℕ) where
   ending-broken h = rw h
 
   module _ (is : is_line DROPPED t ≡ true) where
-    pub ending-refused : (r : Refusal) → refusal_of {M = Unit} (told (Err r)) ≡ end_refusal g (dropped_in t)
+    pub ending-refused : (k : ℕ) → 0 < k → end_refusal g (dropped_in t) ≡ k → check_ending g t ≡ refused k
+    unfolding check_ending unless
+    ending-refused zero l h = absurd (omega arith)
+    ending-refused (suc k) l h = rw (is, h)
+
+    pub ending-met : (r : Refusal) → refusal_of {M = Unit} (told (Err r)) ≡ end_refusal g (dropped_in t)
         → check_ending g t ≡ refused (number_of r)
-    unfolding check_ending
-    ending-refused r e = rw is (unless-met _ {t = Err r} refl e)
+    ending-met r e = ending-refused (number_of r) (number-above r) (sym (unfold refusal_of in e))
 
     pub ending-longer : end_refusal g (dropped_in t) ≡ 0 → line_length DROPPED < length t
         → check_ending g t ≡ refused left_over
@@ -95,10 +103,10 @@ module _ (n : ℕ) (g : Network) (t : List ℕ) where
   chain-broken h = rw h
 
   module _ (is : is_line STEP t ≡ true) where
-    pub chain-refused : (r : Refusal) → refusal_of {M = Unit} (told (Err r)) ≡ step_refusal g (step_in t)
-        → check_chain (suc n) g t ≡ refused (number_of r)
-    unfolding check_chain
-    chain-refused r e = rw is (unless-met _ {t = Err r} refl e)
+    pub chain-refused : (k : ℕ) → 0 < k → step_refusal g (step_in t) ≡ k → check_chain (suc n) g t ≡ refused k
+    unfolding check_chain unless
+    chain-refused zero l h = absurd (omega arith)
+    chain-refused (suc k) l h = rw (is, h)
 
     pub chain_more : step_refusal g (step_in t) ≡ 0
         → check_chain (suc n) g t
@@ -123,11 +131,15 @@ module _ (g : Network) (text : List ℕ) (at : ℕ) where
 
     -- t is the step that the frame names
     module _ (is : is_line STEP (drop at text) ≡ true) (t : Step) (named : t ≡ step_in (drop at text)) where
-      pub chain-at-refused : (r : Refusal) → refusal_of {M = Unit} (told (Err r)) ≡ step_refusal g t
-          → check_chain (g.remaining - 2) g (drop at text) ≡ refused (number_of r)
-      chain-at-refused r e =
+      pub chain-at-refused : (k : ℕ) → 0 < k → step_refusal g t ≡ k
+          → check_chain (g.remaining - 2) g (drop at text) ≡ refused k
+      chain-at-refused k l h =
           rw (← one_more)
-          (chain-refused (g.remaining - 1 - 2) g (drop at text) is r (e ∙ ap (step_refusal g) named))
+          (chain-refused (g.remaining - 1 - 2) g (drop at text) is k l (ap (step_refusal g) (sym named) ∙ h))
+
+      pub chain-at-met : (r : Refusal) → refusal_of {M = Unit} (told (Err r)) ≡ step_refusal g t
+          → check_chain (g.remaining - 2) g (drop at text) ≡ refused (number_of r)
+      chain-at-met r e = chain-at-refused (number_of r) (number-above r) (sym (unfold refusal_of in e))
 
       -- h is the network after the step, and next the place behind its line
       pub chain-at-more : (next : ℕ) (h : Network) → step_refusal g t ≡ 0 → h ≡ after g t → next ≡ at + line_length STEP

@@ -1,5 +1,6 @@
--- The search for the vertices that listed edges join to a start vertex. The columns of ends, the marks of the listed
--- edges and the number of edges stand by themselves: the search knows no network.
+-- The search for the vertices that listed edges join to a start vertex. What is looked for is said of columns of ends, the
+-- marks of the listed edges and the number of edges, each by itself; how, of the same put together (`Edges`). Neither
+-- knows a network.
 use Rattle.std.specs.Prelude.{Bool, true, cond, List, ◌≡◌, ℕ, zero, suc, ◌<◌, ltb, get_or}
 use Rattle.graph.specs.Network.{kept}
 use Rattle.graph.specs.Cut.{Side}

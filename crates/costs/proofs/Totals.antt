@@ -11,15 +11,14 @@ use lib.Seq.{get_or-set_same, get_or-set_other}
 use lib.IntN.{ℤ, pos, nat_abs, ◌+ℤ◌, +ℤ_idr}
 use mir.Syntax.{w64}
 use mir.Val.{SFits, to_z, of_z}
-use mir.Facts.{to_z-of_z}
 use Rattle.base.specs.Fold.{fold, sumℤ}
 use Rattle.graph.specs.Network.{cost_of, cost_over, kept, kept_cost, all_but_reserved}
 use Rattle.graph.specs.Sound.{weight, Light}
 use Rattle.graph.specs.declared.Network.{Network}
-use Rattle.graph.proofs.Differences.{cost-below, cost-kept}
+use Rattle.graph.proofs.Differences.{cost-below}
 use Rattle.base.proofs.Bools.{eqb-self, eqb_no}
 use Rattle.base.proofs.Sums.{fold_more, fold-ext, sum-le, sum-fewer}
-use Rattle.base.proofs.Integers.{size-plus, size_fits, sumℤ-size}
+use Rattle.base.proofs.Integers.{size-plus, size_fits, read_back, sumℤ-size}
 
 -- the cost of the marked edges among the first e
 abbrev pub cost_among : Network → List Bool → ℕ → ℤ
@@ -40,6 +39,22 @@ module _ (g : Network) (K : List Bool) where
   pub among-all : cost_among g K g.edges ≡ kept_cost g K
   unfolding cost_over
   among-all = refl
+
+-- ── sums that fit ──
+
+-- sizes below 2 to the power 62 leave room for a sum
+module _ (a b : ℤ) (ha : nat_abs a < 2 ^ 62) (hb : nat_abs b < 2 ^ 62) where
+  small : nat_abs (a +ℤ b) < 2 ^ 63
+  small = omega (arith, size-plus a b)
+
+  pub sum_fits : SFits w64 (to_z w64 (of_z w64 a) +ℤ to_z w64 (of_z w64 b))
+  sum_fits =
+      rw (read_back a (omega arith), read_back b (omega arith)) (size_fits (a +ℤ b) small)
+
+  pub sum_is : to_z w64 (of_z w64 (to_z w64 (of_z w64 a) +ℤ to_z w64 (of_z w64 b))) ≡ a +ℤ b
+  sum_is = rw (read_back a (omega arith), read_back b (omega arith)) (read_back (a +ℤ b) small)
+
+-- ── the cost of marked edges ──
 
 -- the cost of any of the first edges is no further from 0 than the sum of all costs' sizes
 module _ (g : Network) where
@@ -82,17 +97,15 @@ module _ (g : Network) (light : Light g) where
   module _ (K : List Bool) (e : ℕ) (l : e < g.edges) {a : ℤ} (so-far : a ≡ cost_among g K e) where
     pub next-fits : SFits w64 (a +ℤ to_z w64 (of_z w64 (cost_of g e)))
     next-fits =
-        rw (so-far, cost-kept g light e l)
-        (size_fits _
-        (omega (
-          arith,
-          size-plus (cost_among g K e) (cost_of g e),
-          among-small K e (omega arith),
-          cost-below g light e l,
-        )))
+        let before = among-small K e (omega arith) in
+        let w = sum_fits (cost_among g K e) (cost_of g e) before (cost-below g light e l) in
+        rw so-far (rw (read_back (cost_among g K e) (omega (arith, before))) at w)
 
     pub next-is : to_z w64 (of_z w64 (a +ℤ to_z w64 (of_z w64 (cost_of g e)))) ≡ cost_among g K e +ℤ cost_of g e
-    next-is = to_z-of_z next-fits ∙ rw (so-far, cost-kept g light e l) refl
+    next-is =
+        let before = among-small K e (omega arith) in
+        let w = sum_is (cost_among g K e) (cost_of g e) before (cost-below g light e l) in
+        rw so-far (rw (read_back (cost_among g K e) (omega (arith, before))) at w)
 
 -- n marks but the reserved one
 pub all-marks : (n : ℕ) (g : Network) → g.edges ≤ n → g.reserved < n

@@ -59,8 +59,9 @@ module _ {g : Network} {v x y z : ℕ} (p : Partnered g v x y z) where
       light = p.light;
     }
 
-    pub z-within : z < edge_limit
-    z-within = let s = splittable in omega (arith, s.z_edge, s.room)
+    pub edges-within : (g.reserved < edge_limit) × (z < edge_limit)
+    edges-within =
+        let s = splittable in (omega (arith, s.reserved_edge, s.room), omega (arith, s.z_edge, s.room))
 
   pub split-formed : Formed (split g v x y z)
   split-formed = formed-after p.sound.formed star (end-here p.sound v p.at_end)

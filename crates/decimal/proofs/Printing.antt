@@ -136,9 +136,9 @@ take-spaces k w h =
     ∙ take_at (replicate k space) (replicate (w - k) space) k (length-replicate k space)
 
 -- digits of a number's size that end w characters, spaces before the first of them
-record Behind (z : ℤ) (w first : ℕ) (out : List ℕ) : Type 0 where
-  room : first + length (digits (nat_abs z)) ≡ w
-  text : out ≡ replicate first space ++ digits (nat_abs z)
+pub record Behind (z : ℤ) (w first : ℕ) (out : List ℕ) : Type 0 where
+  pub room : first + length (digits (nat_abs z)) ≡ w
+  pub text : out ≡ replicate first space ++ digits (nat_abs z)
 
 -- so are digits that are written over the last of w spaces
 written-behind : {y z : ℤ} {w size : ℕ} {spaces out : List ℕ} → y ≡ z → size ≡ nat_abs y
@@ -168,18 +168,18 @@ module _ (z : ℤ) (w : ℕ) (fit : fits w z ≡ true) where
 
   -- digits behind spaces, from the place of the first on
   module _ {first : ℕ} {out : List ℕ} (behind : Behind z w first out) where
-    positive-aligned : lt_z z (pos 0) ≡ false → out ≡ aligned w z
+    pub positive-aligned : lt_z z (pos 0) ≡ false → out ≡ aligned w z
     unfolding aligned
     positive-aligned h =
         let p = positive-printed z h in
         let e : first ≡ w - length (in_base_ten z) = omega (arith, behind.room, ap length p) in
         behind.text ∙ rw (← e, p)
 
-    minus-place : lt_z z (pos 0) ≡ true → 0 < first
+    pub minus-place : lt_z z (pos 0) ≡ true → 0 < first
     minus-place h = omega (arith, behind.room, room-is, ap length (negative-printed z h))
 
     -- the minus takes the place of the last space
-    negative-aligned : lt_z z (pos 0) ≡ true → set out (first - 1) minus ≡ aligned w z
+    pub negative-aligned : lt_z z (pos 0) ≡ true → set out (first - 1) minus ≡ aligned w z
     unfolding aligned
     negative-aligned h =
         let p = negative-printed z h in

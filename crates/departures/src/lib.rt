@@ -41,6 +41,54 @@ pub fn keeps(rule: u8) -> bool
     matches!(rule, KEPT_AS_Y | KEPT_AS_X | KEPT_LAST)
 }
 
+// Notes the ending: it drops an edge, and the reserved edge has stayed.
+pub fn note_ending(rules: &mut [u8; EDGE_LIMIT], reserved: usize, dropped: usize)
+    requires { (reserved < edge_limit) × (dropped < edge_limit) }
+    ensures { rules.new ≡ ending_noted reserved dropped rules.old }
+{
+    rules[dropped] = DROPPED_LAST;
+    rules[reserved] = RESERVED_EDGE;
+}
+
+// Notes the rules of a step, going back: y is kept, and x exactly if z is not.
+fn note_rules(rules: &mut [u8; EDGE_LIMIT], x: usize, y: usize, z: usize)
+    requires { (x < edge_limit) × (y < edge_limit) × (z < edge_limit) }
+    ensures { rules.new ≡ rules_back x y z rules.old }
+{
+    let z_kept = keeps(rules[z]);
+    rules[x] = if z_kept { OUT_AS_X } else { KEPT_AS_X };
+    rules[y] = KEPT_AS_Y;
+}
+
+// Notes a step, going back: by which rules x and y leave, and that it is at this step. The columns are lent one by one,
+// for callers that hold them apart; `Noted` holds them together.
+pub fn note_step(
+    rules: &mut [u8; EDGE_LIMIT],
+    steps: &mut [u16; EDGE_LIMIT],
+    x: usize,
+    y: usize,
+    z: usize,
+    number: u16,
+)
+    requires { (x < edge_limit) × (y < edge_limit) × (z < edge_limit) }
+    ensures rules { rules.new ≡ rules_back x y z rules.old }
+    ensures steps { steps.new ≡ steps_back x y number steps.old }
+{
+    note_rules(rules, x, y, z);
+    steps[x] = number;
+    steps[y] = number;
+}
+
+// Marks the edges below a number that leave by a rule that keeps them, where none is marked.
+pub fn mark_kept(rules: &[u8; EDGE_LIMIT], edges: usize, marks: &mut [bool; EDGE_LIMIT])
+    requires { (edges ≤ edge_limit) × (marks.old ≡ no_marks) }
+    ensures { marks.new ≡ kept_by edges rules.now }
+{
+    for edge in 0..edges {
+        marks[edge] = keeps(rules[edge]);
+    }
+}
+
 // What is noted of each edge: the rule by which it leaves, and the step.
 #[derive(Clone, Copy)]
 pub struct Noted {
@@ -60,45 +108,29 @@ impl Noted {
         }
     }
 
-    // Notes the ending: it drops an edge, and the reserved edge has stayed.
+    // Notes the ending at the rules.
     pub fn note_ending(&mut self, reserved: usize, dropped: usize)
         requires { (reserved < edge_limit) × (dropped < edge_limit) }
         ensures rules { self.new.rules ≡ ending_noted reserved dropped self.old.rules }
         ensures steps { self.new.steps ≡ self.old.steps }
     {
-        self.rules[dropped] = DROPPED_LAST;
-        self.rules[reserved] = RESERVED_EDGE;
+        note_ending(&mut self.rules, reserved, dropped);
     }
 
-    // Notes the rules of a step, going back: y is kept, and x exactly if z is not.
-    fn note_rules(&mut self, x: usize, y: usize, z: usize)
-        requires { (x < edge_limit) × (y < edge_limit) × (z < edge_limit) }
-        ensures rules { self.new.rules ≡ rules_back x y z self.old.rules }
-        ensures steps { self.new.steps ≡ self.old.steps }
-    {
-        let z_kept = keeps(self.rules[z]);
-        self.rules[x] = if z_kept { OUT_AS_X } else { KEPT_AS_X };
-        self.rules[y] = KEPT_AS_Y;
-    }
-
-    // Notes a step, going back: by which rules x and y leave, and that it is at this step.
+    // Notes a step at the rules and the steps, going back.
     pub fn note_step(&mut self, x: usize, y: usize, z: usize, number: u16)
         requires { (x < edge_limit) × (y < edge_limit) × (z < edge_limit) }
         ensures rules { self.new.rules ≡ rules_back x y z self.old.rules }
         ensures steps { self.new.steps ≡ steps_back x y number self.old.steps }
     {
-        self.note_rules(x, y, z);
-        self.steps[x] = number;
-        self.steps[y] = number;
+        note_step(&mut self.rules, &mut self.steps, x, y, z, number);
     }
 
-    // Marks the edges below a number that leave by a rule that keeps them, where none is marked.
+    // Marks what the noted rules keep of the edges below a number, where none is marked.
     pub fn mark_kept(&self, edges: usize, marks: &mut [bool; EDGE_LIMIT])
         requires { (edges ≤ edge_limit) × (marks.old ≡ no_marks) }
         ensures { marks.new ≡ kept_by edges self.now.rules }
     {
-        for edge in 0..edges {
-            marks[edge] = keeps(self.rules[edge]);
-        }
+        mark_kept(&self.rules, edges, marks);
     }
 }

@@ -4,8 +4,10 @@ use mathlib.Core.Bool.{Bool, true, false}
 use mathlib.Core.List.{List}
 use Prim.Native.Nat.{ℕ, ◌+◌, ◌-◌, ◌<◌}
 use native.Mathlib.Omega.{arith}
+use borrow.Author.Count.{below_more}
 use lib.ListN.{replicate, length-replicate, get_or-replicate}
 use Rattle.base.specs.Fold.{sum}
+use Rattle.graph.specs.Network.{low_end, high_end}
 use Rattle.graph.specs.Cut.{Side, differ, crosses, crossings_of, crossings}
 use Rattle.base.specs.Limits.{edge_limit}
 use Rattle.graph.specs.declared.Network.{Network}
@@ -13,8 +15,9 @@ use Rattle.graph.proofs.Stars.{differ_same}
 use Rattle.base.proofs.Sums.{sum-ext, sum-add, sum_zeros, sum-join}
 use Rattle.base.specs.Columns.{at}
 use Rattle.flow.specs.Arcs.{arc_limit, reverse, LaidTo, Laid, leaving, carried, capacity, Balanced}
+use Rattle.flow.proofs.Storing.{stored, length-stored, low-stored, high-stored, same_low, same-high}
 
--- no edge is laid yet
+-- the edges are laid one by one
 pub laid_none : (g : Network) → LaidTo g 0 (replicate arc_limit 0)
 laid_none g = record {
   long = length-replicate {A = ℕ} arc_limit 0;
@@ -24,6 +27,24 @@ laid_none g = record {
   spare = λ e _ l. get_or-replicate arc_limit e 0 0 (omega arith)
       ∙ sym (get_or-replicate arc_limit (e + edge_limit) 0 0 (omega arith));
 }
+
+module _ {g : Network} {edge : ℕ} {ends : List ℕ} (l : LaidTo g edge ends) (h : edge < edge_limit) where
+  longer : List ℕ
+  longer = stored ends edge (low_end g edge) (high_end g edge)
+
+  pub laid_on : LaidTo g (edge + 1) (stored ends edge (low_end g edge) (high_end g edge))
+  unfolding longer
+  laid_on = record {
+    long = length-stored ends edge _ _ ∙ l.long;
+    room = omega arith;
+    low = below_more (λ e. at longer e ≡ low_end g e) edge
+        (λ e k. same_low ends h _ _ e (λ q. omega arith) (omega arith) ∙ l.low e k) (low-stored ends h _ _ l.long);
+    high = below_more (λ e. at longer (e + edge_limit) ≡ high_end g e) edge
+        (λ e k. same-high ends h _ _ e (λ q. omega arith) (omega arith) ∙ l.high e k)
+        (high-stored ends h _ _ l.long);
+    spare = λ e le k. same_low ends h _ _ e (λ q. omega arith) k ∙ l.spare e (omega arith) k
+        ∙ sym (same-high ends h _ _ e (λ q. omega arith) k);
+  }
 
 -- every arc can carry one unit
 abbrev pub ones : List ℕ

@@ -2,6 +2,7 @@ pub mod Visiting
 pub mod Searches
 pub mod Trails
 pub mod Roots
+pub mod Storing
 pub mod Laying
 pub mod Reaching
 pub mod Pushing

@@ -6,6 +6,7 @@ use mathlib.Core.List.{List}
 use Prim.Native.Nat.{ℕ, zero, suc, ◌+◌, ◌≤◌, ◌<◌}
 use native.Mathlib.Omega.{arith}
 use native.Mathlib.Decide.{ℕ_discrete}
+use borrow.Author.Count.{below_more}
 use lib.ListN.{length, set, length-set}
 use lib.Seq.{get_or-set_same, get_or-set_other}
 use Rattle.base.specs.Fold.{bit}
@@ -14,7 +15,7 @@ use Rattle.base.proofs.Bools.{bit-low}
 use Rattle.base.proofs.Sums.{sum_bound, sum-change}
 use Rattle.base.specs.Columns.{at}
 use Rattle.flow.specs.Arcs.{arc_limit, tail, head}
-use Rattle.flow.specs.Search.{positive, reached, reached_count, Link, Tree, Grown, Relaxed, Swept, Stuck}
+use Rattle.flow.specs.Search.{positive, reached, reached_count, Link, Tree, Grown, Shut, Relaxed, Swept, Stuck}
 use Rattle.flow.specs.declared.Pair.{Pair}
 use Rattle.flow.specs.declared.search.Search.{Search}
 
@@ -45,7 +46,7 @@ pub clock-most : {ends residual : List ℕ} {s : Search} → Tree ends residual 
 clock-most {s = s} t = omega (arith, t.counted, count_most s.order)
 
 -- the numbers once arc p has led on, to the vertex at its head, and what has been found then
-abbrev numbered_on : List ℕ → Search → ℕ → List ℕ
+abbrev pub numbered_on : List ℕ → Search → ℕ → List ℕ
 numbered_on ends s p = set s.order (head ends p) (s.clock + 1)
 
 abbrev pub led_on : List ℕ → Search → ℕ → Search
@@ -145,6 +146,20 @@ grown-on g h = record {
   still = λ e. h.still (omega (arith, g.rises, h.rises)) ∙ g.still (omega (arith, g.rises, h.rises));
   kept = λ v r. h.kept v (g.kept v r);
   root = λ v r. g.root v (h.root v r);
+}
+
+-- a sweep, arc by arc
+pub swept_none : {ends residual : List ℕ} {s : Search} → Tree ends residual s → Swept ends residual 0 s s
+swept_none t = record { grown = grown-none t; shut = λ _ p h. absurd (omega arith) }
+
+pub swept-on : {ends residual : List ℕ} {a b c : Search} {m : ℕ} → Swept ends residual m a b → Relaxed ends residual m b c
+    → Swept ends residual (m + 1) a c
+swept-on {ends} {residual} {c = c} {m} s r = record {
+  grown = grown-on s.grown r.grown;
+  shut = λ e. below_more (λ p. Shut ends residual c.order p) m
+      (λ p l. rw (r.grown.still (omega (arith, s.grown.rises, r.grown.rises)))
+      (s.shut (omega (arith, s.grown.rises, r.grown.rises)) p l))
+      r.shut;
 }
 
 -- a sweep of all arcs that reaches nothing new: the search is stuck

@@ -121,10 +121,10 @@ module _ (mate : List ℕ) (back : Bool) (trail : List ℕ) (long : length trail
 
   -- ── two roots ──
   module _ (roots : Pair) (first_below : roots.first < vertex_limit) (second_below : roots.second < vertex_limit) where
-    abbrev sown : List ℕ
+    abbrev pub sown : List ℕ
     sown = set (set blank roots.first 1) roots.second 1
 
-    abbrev planted : List ℕ
+    abbrev pub planted : List ℕ
     planted = set (set trail 0 (at mate (ports_each * roots.first))) 1 (at mate (ports_each * roots.second))
 
     sown-second : at sown roots.second ≡ 1

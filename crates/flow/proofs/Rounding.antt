@@ -3,24 +3,27 @@ use mathlib.Core.Bool.{Bool, true, false, not}
 use mathlib.Core.List.{List}
 use mathlib.Core.Logic.{inl, inr, ⊎_elim}
 use mathlib.Core.Path.{◌≡◌, refl, sym, ◌∙◌, ap}
-use Prim.Native.Nat.{ℕ, zero, suc, ◌≤◌, ◌<◌}
+use Prim.Native.Nat.{ℕ, zero, suc, ◌+◌, ◌≤◌, ◌<◌}
 use native.Mathlib.Decide.{dec_lt, ℕ_discrete}
 use native.Mathlib.Omega.{arith}
 use borrow.Author.Tests.{not-true, not-false}
+use lib.ListN.{length}
 use Rattle.base.specs.Columns.{at}
 use Rattle.base.specs.Fold.{bit}
+use Rattle.base.specs.Limits.{vertex_limit}
 use Rattle.base.proofs.Bools.{never}
 use Rattle.base.proofs.Sums.{sum-ext, sum_zeros}
 use Rattle.graph.specs.Cut.{Side}
 use Rattle.ports.specs.Ports.{port_limit, vertex_of, far_vertex, Mated}
 use Rattle.flow.specs.Capacity.{leaving, capacity, Balanced}
 use Rattle.flow.specs.declared.reach.Reach.{Reach}
-use Rattle.flow.specs.Reach.{positive, reached, Link, Grown, Apart, Encounter}
-use Rattle.flow.specs.Meet.{Closed, Over, Meeting, Parted}
+use Rattle.std.proofs.Common.{Option, Some, None}
+use Rattle.flow.specs.Reach.{positive, reached, gate, Link, Grown, Apart, Encounter}
+use Rattle.flow.specs.Meet.{unreached, rooted, rooted_pair, Closed, Over, Finds, Meeting, Parted, Meets}
 use Rattle.flow.specs.Sending.{Sendable, Sent, Between, Leaving, Rounded}
 use Rattle.flow.specs.declared.Pair.{Pair}
 use Rattle.flow.proofs.Visiting.{positive-yes}
-use Rattle.flow.proofs.Roots.{Roots, is_root, root_of}
+use Rattle.flow.proofs.Roots.{Roots, is_root, root_of, one-root, two-roots}
 
 -- ── nothing leads on ──
 leaving-none : (x y : Bool) (c : ℕ) → (x ≡ true → y ≡ false → c ≡ 0) → leaving x y c ≡ 0
@@ -70,10 +73,25 @@ unreached-full mate residual s way m closed =
     none-carried (at residual p) (λ c. omega (arith, rw b at (shut (rw (way, b) c)))))
 
 -- ── one round to marked vertices ──
+-- the root, as the code plants it
+pub rooted-one : {mate : List ℕ} {back : Bool} {s : Reach} {source : ℕ} (old : List ℕ) → length old ≡ vertex_limit + 1
+    → source < vertex_limit → s ≡ rooted mate (unreached back old) 1 source → Roots mate back s 1 (λ _. source)
+rooted-one {mate} {back} {source = source} old long below e = rw e (one-root mate back old long source below)
+
 -- the root is not marked
 pub one-apart : {mate : List ℕ} {source : ℕ} {s : Reach} (marks : List ℕ) → Roots mate false s 1 (λ _. source)
     → at marks source ≡ 0 → Apart s.order marks
 one-apart marks r h v = ⊎_elim inl (λ w. inr (ap (at marks) (sym w.3) ∙ h)) (r.only v)
+
+-- how the search ended, by its answer
+module _ {mate residual marks : List ℕ} {s s' : Reach} {found : Option ℕ} where
+  pub finds-at : {m : ℕ} → found ≡ Some m → Finds mate residual s marks s' found → Encounter mate residual s marks s' m
+  unfolding Finds
+  finds-at e h = rw e at h
+
+  pub finds-nothing : found ≡ None → Finds mate residual s marks s' found → Over mate residual s marks s'
+  unfolding Finds
+  finds-nothing e h = rw e at h
 
 module _ {mate residual marks : List ℕ} {source : ℕ} {s s' : Reach} (r : Roots mate false s 1 (λ _. source)) where
   pub to-sendable : {m : ℕ} → Encounter mate residual s marks s' m → Sendable mate residual s' m
@@ -113,6 +131,22 @@ module _ {mate residual marks : List ℕ} {source : ℕ} {s s' : Reach} (r : Roo
   }
 
 -- ── one round between pairs ──
+-- the roots, as the code plants them
+pub rooted-pair : {mate : List ℕ} {back : Bool} {s : Reach} (roots : Pair) (old : List ℕ) → length old ≡ vertex_limit + 1
+    → roots.first < vertex_limit → roots.second < vertex_limit → s ≡ rooted_pair mate (unreached back old) roots
+    → Roots mate back s 0 (root_of roots)
+rooted-pair {mate} {back} roots old long first second e = rw e (two-roots mate back old long roots first second)
+
+-- how two searches ended, by their answer
+module _ {mate residual : List ℕ} {s t s' t' : Reach} {found : Option ℕ} where
+  pub meets-at : {m : ℕ} → found ≡ Some m → Meets mate residual s t s' t' found → Meeting mate residual s t s' t' m
+  unfolding Meets
+  meets-at e h = rw e at h
+
+  pub meets-nothing : found ≡ None → Meets mate residual s t s' t' found → Parted mate residual s t s' t'
+  unfolding Meets
+  meets-nothing e h = rw e at h
+
 at-root : (roots : Pair) (S : Side) {b : Bool} → S roots.first ≡ b → S roots.second ≡ b
     → (k : ℕ) → S (root_of roots k) ≡ b
 at-root roots S f g zero = f
@@ -149,23 +183,29 @@ module _ {mate residual : List ℕ} {m : ℕ} {forth forth' back back' : Reach}
     | no ne ↦ ⊎_elim (λ a. absurd (omega arith)) (λ a. absurd (omega arith)) (meeting.only w ne)
   ]
 
-  module _ {residual' : List ℕ} (sent : Sent mate forth' m residual residual') (back-way : back.back ≡ true) where
-    way : back'.back ≡ true
-    way = meeting.grown_back.way ∙ back-way
+  module _ {residual' : List ℕ} (sent : Sent mate forth' m residual residual') where
+    -- both vertices of a port that can carry less than before are reached, whichever way the port is passed
+    both-reached : (way : Bool) (p : ℕ) → p < port_limit → at residual' (gate mate way p) < at residual (gate mate way p)
+        → (1 ≤ at forth'.order (vertex_of p)) × (1 ≤ at forth'.order (far_vertex mate p))
+    both-reached false p l less = sent.only p l less
+    both-reached true p l less =
+        let mated = meeting.grown_back.tree.mated in
+        let only = sent.only (at mate p) (mated.below p l) less in
+        (rw (mated.back p l) at only.1, only.0)
 
     -- the first half of the path has taken nothing from the second, since no vertex but the last is on both
-    second-carries : (p v : ℕ) → Link mate residual true back'.order p v → Link mate residual' true back'.order p v
-    second-carries p v l = record {
+    second-carries : (way : Bool) (p v : ℕ) → Link mate residual way back'.order p v
+        → Link mate residual' way back'.order p v
+    second-carries way p v l = record {
       port = l.port;
       arrives = l.arrives;
       from = l.from;
       earlier = l.earlier;
-      carries = elim (dec_lt (at residual' (at mate p)) (at residual (at mate p))) [
+      carries = elim (dec_lt (at residual' (gate mate way p)) (at residual (gate mate way p))) [
         | yes less ↦
-            (let t = meeting.grown_back.tree in
-            let only = sent.only (at mate p) (t.mated.below p l.port) less in
-            let here : vertex_of p ≡ m = met-at (vertex_of p) (rw (t.mated.back p l.port) at only.1) l.from in
-            let there : v ≡ m = met-at v (rw l.arrives at only.0) (omega (arith, l.from, l.earlier)) in
+            (let both = both-reached way p l.port less in
+            let here : vertex_of p ≡ m = met-at (vertex_of p) both.0 l.from in
+            let there : v ≡ m = met-at v (rw l.arrives at both.1) (omega (arith, l.from, l.earlier)) in
             absurd (omega (arith, l.earlier, ap (at back'.order) (here ∙ sym there))))
         | no same ↦ omega (arith, l.carries)
       ];
@@ -184,7 +224,7 @@ module _ {mate residual : List ℕ} {m : ℕ} {forth forth' back back' : Reach}
         counted = t.counted;
         numbered = t.numbered;
         named = t.named;
-        link = λ v h. rw way (second-carries _ v (rw way at (t.link v h)));
+        link = λ v h. second-carries back'.back _ v (t.link v h);
       };
     }
 
@@ -196,7 +236,7 @@ module _ {mate residual : List ℕ} {m : ℕ} {forth forth' back back' : Reach}
       balanced = second.balanced;
       more = λ _ S d.
           let first-went = rw (meeting.grown.way ∙ r.way) at sent.went in
-          let second-went = rw way at second.went in
+          let second-went = rw (meeting.grown_back.way ∙ s.way) at second.went in
           let source = roots-in r S d.first_in d.second_in sent.root (meeting.grown.root sent.root sent.is_root) in
           let sink = roots-in s S d.first_out d.second_out second.root
           (meeting.grown_back.root second.root second.is_root) in

@@ -176,22 +176,25 @@ module _ {none : List ℕ} {sources : Pair} (b : Blank none sources) where
 -- so many units were sent: what every side between the terminals
 -- could pass at the start is that much more than it can pass now
 pub record Level (ends : List ℕ) (sources sinks : Pair) (residual : List ℕ) (sent : ℕ) : Type 0 where
+  pub few : sent ≤ 4
   pub balanced : Balanced residual
   pub passed : (g : Network) → Laid g ends → (S : Side) → Between sources sinks S
       → capacity ends residual S + sent ≡ crossings g S
 
 pub level-none : (ends : List ℕ) (sources sinks : Pair) → Level ends sources sinks ones 0
 level-none ends sources sinks = record {
+  few = omega arith;
   balanced = balanced-ones;
   passed = λ g l S b. omega (arith, capacity-ones l S);
 }
 
 module _ {ends : List ℕ} {sources sinks : Pair} {residual : List ℕ} {sent : ℕ}
     (level : Level ends sources sinks residual sent) where
-  pub level-on : {residual' : List ℕ} {more : Bool} → more ≡ true
+  pub level-on : {residual' : List ℕ} {more : Bool} → sent < 4 → more ≡ true
       → Rounded ends sources sinks residual residual' more
       → Level ends sources sinks residual' (sent + 1)
-  level-on e r = record {
+  level-on lt e r = record {
+    few = omega arith;
     balanced = r.balanced;
     passed = λ g l S b. omega (arith, level.passed g l S b, r.more e S b);
   }

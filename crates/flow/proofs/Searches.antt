@@ -17,19 +17,19 @@ module _ {mate residual : List ℕ} {first next : ℕ} {found : Reach}
     (s : Searching mate residual first found next) where
   -- the vertex that comes next is reached, by a port that is one
   module _ (l : next ≤ found.clock) where
-    next-port : at found.trail next < port_limit
+    pub next-port : at found.trail next < port_limit
     next-port = elim (dec_lt 1 next) [
       | yes h ↦ (s.tree.named next h l).0
       | no h ↦ s.root-port next s.begun (omega arith)
     ]
 
-    next-reached : 1 ≤ at found.order (far_vertex mate (at found.trail next))
+    pub next-reached : 1 ≤ at found.order (far_vertex mate (at found.trail next))
     next-reached = elim (dec_lt 1 next) [
       | yes h ↦ omega (arith, (s.tree.named next h l).1)
       | no h ↦ omega (arith, s.root-reached next s.begun (omega arith))
     ]
 
-    next-vertex : far_vertex mate (at found.trail next) < vertex_limit
+    pub next-vertex : far_vertex mate (at found.trail next) < vertex_limit
     next-vertex = omega (arith, s.tree.mated.below (at found.trail next) next-port)
 
     pub number-most : next ≤ vertex_limit

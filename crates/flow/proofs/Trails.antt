@@ -215,14 +215,18 @@ module _ {mate residual₀ : List ℕ} {target : ℕ} {found : Reach}
           omega (arith, link-back.earlier)
 
       -- a unit can go by its gate, and come in by the other one
+      pub gate-port : gate mate found.back p < port_limit
+      gate-port = gate-below t.mated found.back p link-back.port
+
+      pub other-gate-port : gate mate (not found.back) p < port_limit
+      other-gate-port = gate-below t.mated (not found.back) p link-back.port
+
+      pub room_back : at residual (gate mate (not found.back) p) ≤ 1
+      room_back = sent-room t.mated way.balanced p link-back.port other-port found.back carries-back
+
       pub pushable : (gate mate found.back p < port_limit) × (gate mate (not found.back) p < port_limit)
           × (1 ≤ at residual (gate mate found.back p)) × (at residual (gate mate (not found.back) p) ≤ 1)
-      pushable = (
-        gate-below t.mated found.back p link-back.port,
-        gate-below t.mated (not found.back) p link-back.port,
-        carries-back,
-        sent-room t.mated way.balanced p link-back.port other-port found.back carries-back,
-      )
+      pushable = (gate-port, other-gate-port, carries-back, room_back)
 
       -- no vertex before it was reached by the same port
       another-port : (w : ℕ) → 2 ≤ at found.order w → at found.order w < number → at found.trail (at found.order w) ≢ p

@@ -15,7 +15,9 @@ use Rattle.base.proofs.Bools.{bit-low}
 use Rattle.base.proofs.Sums.{sum_bound, sum-change}
 use Rattle.ports.specs.Ports.{port_limit, vertex_of, far_vertex, Mated}
 use Rattle.flow.specs.declared.reach.Reach.{Reach}
-use Rattle.flow.specs.Reach.{positive, reached, reached_count, gate, Link, Tree, Grown, Shut, Apart, WentOn, Encounter}
+use Rattle.flow.specs.Reach.{positive, reached, reached_count, gate, Link, Tree, Grown, Shut, Apart, WentOn, Encounter, Comes}
+use Rattle.std.specs.declared.ops.ControlFlow.{ControlFlow}
+use Rattle.std.specs.declared.ops.ControlFlow.TheVariants.{Continue, Break}
 
 pub positive-yes : (n : ℕ) → 1 ≤ n → positive n ≡ true
 positive-yes zero h = absurd (omega arith)
@@ -216,6 +218,11 @@ module _ {mate residual : List ℕ} where
         → Shut mate residual s p → WentOn mate residual (λ q. q ≡ p) s other s
     went-nowhere t apart p shut = record { grown = grown-none t; shut = λ q l e. rw e shut; apart = apart }
 
+    -- no port tried
+    pub went-none : {Tried : ℕ → Type 0} {s : Reach} → Tree mate residual s → Apart s.order other
+        → ((p : ℕ) → Tried p → ⊥) → WentOn mate residual Tried s other s
+    went-none t apart none = record { grown = grown-none t; shut = λ p l h. absurd (none p h); apart = apart }
+
     -- some ports tried, then others: of all that are one or the other
     pub went-further : {Some More Both : ℕ → Type 0} {s s' s'' : Reach}
         → WentOn mate residual Some s other s' → WentOn mate residual More s' other s''
@@ -235,3 +242,14 @@ module _ {mate residual : List ℕ} where
       reached_before = b.reached_before;
       only = b.only;
     }
+
+    -- what trying ports came to, by its answer
+    pub comes-on : {Tried : ℕ → Type 0} {s s' : Reach} {r : ControlFlow ℕ (Unit {0})} {u : Unit {0}} → r ≡ Continue u
+        → Comes mate residual Tried s other s' r → WentOn mate residual Tried s other s'
+    unfolding Comes
+    comes-on e h = rw e at h
+
+    pub comes-met : (Tried : ℕ → Type 0) {s s' : Reach} {m : ℕ} {r : ControlFlow ℕ (Unit {0})} → r ≡ Break m
+        → Comes mate residual Tried s other s' r → Encounter mate residual s other s' m
+    unfolding Comes
+    comes-met Tried e h = rw e at h

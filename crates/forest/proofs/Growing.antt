@@ -1,5 +1,5 @@
 -- A search goes on, turn by turn, for every list whose search it may be; and how it begins.
-use mathlib.Core.Path.{◌≡◌}
+use mathlib.Core.Path.{◌≡◌, refl}
 use mathlib.Core.Bool.{Bool, cond}
 use mathlib.Core.List.{List}
 use mathlib.Core.Logic.{inr}
@@ -20,7 +20,7 @@ use Rattle.connection.proofs.Tabling.{incidence-chains}
 use Rattle.connection.specs.declared.ends.Incidence.{Incidence}
 use Rattle.base.specs.Columns.{at}
 use Rattle.forest.specs.Forest.{no_place, DepthFirst}
-use Rattle.forest.specs.Search.{forest, entered, unplaced, Searching, Progress, advanced, work, Grown}
+use Rattle.forest.specs.Search.{forest, entered, unplaced, Sized, Searching, Progress, advanced, work, Grown}
 use Rattle.forest.specs.declared.Forest.{Forest}
 use Rattle.forest.proofs.Entering.{number-new}
 use Rattle.forest.proofs.Passing.{less, passed-known, passed-new, place-free, new-keeps}
@@ -122,6 +122,37 @@ module _ {low high next : List ℕ} {t : Forest} {ahead : List ℕ} (p : Progres
 
 -- ── the beginning ──
 
+pub search-begun : {low high : List ℕ} {K : List Bool} {m : ℕ} (table : Incidence) (t : Forest)
+    → Chains low high K m table → m ≤ edge_limit → Sized low high table.next t table.first → t.count ≡ 0
+    → ((v : ℕ) → v < vertex_limit → no_place ≤ at t.number v)
+    → Searching low high K m table.next t table.first no_place (λ k. 0)
+unfolding unplaced
+search-begun table t chains few sized none new = record {
+  course = record {
+    sized = sized;
+    few = few;
+    rises = chains.rises;
+    trees = record {
+      placed = λ v l h. absurd (omega (arith, new v l));
+      holds = λ k l. absurd (omega arith);
+      tree = λ k l. absurd (omega arith);
+      root = λ k l. absurd (omega arith);
+      own = λ k l. absurd (omega arith);
+      parents = λ i k b l. absurd (omega arith);
+      children = λ k l. absurd (omega arith);
+      nested = λ i k b l. absurd (omega arith);
+    };
+    room = omega (arith, sum_bound vertex_limit 1 (λ v. bit (free v)) (λ v l. bit-low (free v)));
+    here = λ l. absurd (omega arith);
+    turns = λ k l. absurd (omega arith);
+    sound = chains.sound;
+  };
+  passed = λ x d. inr (chains.whole x d);
+}
+  where
+    free : ℕ → Bool
+    free v = leb no_place (at t.number v)
+
 -- a forest that has no place yet
 abbrev pub empty : Forest
 empty =
@@ -142,10 +173,16 @@ module _ {g : Network} {table : Incidence} (w : Searchable g) (long : Long g tab
 
   module _ {K : List Bool} (is : table ≡ incidence g K) where
     -- the search begins
-    pub search-begun : Searching g.low g.high K g.edges table.next empty table.first no_place (λ k. 0)
-    unfolding unplaced
-    search-begun = record {
-      course = record {
+    pub search-opened : Searching g.low g.high K g.edges table.next empty table.first no_place (λ k. 0)
+    search-opened = search-begun table empty chains few-edges sized refl new
+      where
+        few-edges : g.edges ≤ edge_limit
+        few-edges = omega (arith, w.low_room, long.low)
+
+        chains : Chains g.low g.high K g.edges table
+        chains = rw is (incidence-chains g K w few-vertices few-edges)
+
+        sized : Sized g.low g.high table.next empty table.first
         sized = record {
           long_low = long.low;
           long_high = long.high;
@@ -155,35 +192,7 @@ module _ {g : Network} {table : Incidence} (w : Searchable g) (long : Long g tab
           long_parent = length-replicate vertex_limit no_place;
           long_edge = length-replicate vertex_limit edge_limit;
           long_ahead = long.first;
-        };
-        few = few-edges;
-        rises = chains.rises;
-        trees = record {
-          placed = λ v l h. absurd (omega (arith, new v l));
-          holds = λ k l. absurd (omega arith);
-          tree = λ k l. absurd (omega arith);
-          root = λ k l. absurd (omega arith);
-          own = λ k l. absurd (omega arith);
-          parents = λ i k b l. absurd (omega arith);
-          children = λ k l. absurd (omega arith);
-          nested = λ i k b l. absurd (omega arith);
-        };
-        room = omega (arith, sum_bound vertex_limit 1 (λ v. bit (free v)) (λ v l. bit-low (free v)));
-        here = λ l. absurd (omega arith);
-        turns = λ k l. absurd (omega arith);
-        sound = chains.sound;
-      };
-      passed = λ x d. inr (chains.whole x d);
-    }
-      where
-        few-edges : g.edges ≤ edge_limit
-        few-edges = omega (arith, w.low_room, long.low)
-
-        chains : Chains g.low g.high K g.edges table
-        chains = rw is (incidence-chains g K w few-vertices few-edges)
-
-        free : ℕ → Bool
-        free v = leb no_place (at empty.number v)
+        }
 
         new : (v : ℕ) → v < vertex_limit → no_place ≤ at empty.number v
         new v l = rw (get_or-replicate vertex_limit v no_place 0 l) (omega arith)
@@ -193,4 +202,4 @@ module _ {g : Network} {table : Incidence} (w : Searchable g) (long : Long g tab
         → Grown g.low g.high table.next empty table.first no_place t ahead no_place
         → ((v : ℕ) → v < g.vertices → at t.number v < no_place) → DepthFirst g.low g.high K g.edges g.vertices t
     search-ended grown all =
-        search-over (grown.on K g.edges (λ k. 0) search-begun).1 g.vertices few-vertices all w.low_below
+        search-over (grown.on K g.edges (λ k. 0) search-opened).1 g.vertices few-vertices all w.low_below

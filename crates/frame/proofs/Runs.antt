@@ -1,6 +1,6 @@
 -- Runs of frames, read frame by frame.
 -- Assumes nothing.
-use mathlib.Core.Path.{◌≡◌, refl, ◌∙◌, ap}
+use mathlib.Core.Path.{◌≡◌, refl, sym, ◌∙◌, ap}
 use mathlib.Core.Bool.{Bool, true, false, cond}
 use mathlib.Core.List.{List, [], ◌∷◌}
 use Prim.Native.Nat.{ℕ, zero, suc, ◌+◌, ◌/◌, ◌≤◌, ◌<◌}
@@ -10,13 +10,19 @@ use native.Mathlib.Nat.{zero-div, add-div_left}
 use lib.ListN.{length, drop, get_or, replicate, length-drop, drop_of_length-le}
 use lib.Seq.{drop-cons, drop-drop}
 use Rattle.base.proofs.Bools.{no_answer}
-use Rattle.base.specs.Answer.{Answer, refused, answer}
+use Rattle.std.proofs.Common.{Result}
+use Rattle.base.specs.Answer.{Answer, refused, answer, told}
 use Rattle.base.specs.Refusals.{FORM}
+use Rattle.base.specs.declared.refusals.Refusal.{Refusal}
 use Rattle.frame.specs.Table.{line_length}
 use Rattle.frame.specs.Line.{fields_of, is_line, line_at, read_line, Fits}
 use Rattle.frame.specs.Frames.{done, broken, frame, frames_of, frames_to_end}
 use Rattle.frame.specs.declared.line.Fields.{Fields}
 use Rattle.frame.proofs.Lines.{formed, line-fits}
+
+-- what a reader's result tells, by the case that its caller finds: of a line, and of any frame made of one
+pub read_as : {M : Type 0} {r case : Result M Refusal} {a : Answer M} → r ≡ case → told r ≡ a → told case ≡ a
+read_as e t = ap told (sym e) ∙ t
 
 -- what is read at a place, by whether a line of a row's kind stands there
 abbrev read_if : Bool → ℕ → List ℕ → ℕ → Answer (Fields × ℕ)

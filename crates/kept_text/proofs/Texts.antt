@@ -39,7 +39,7 @@ use Rattle.list_text.proofs.OneToOne.{one_to_one}
 use Rattle.list_text.proofs.Texts.{length-list}
 
 -- the text that is left, where the number at the place is kept
-text-kept : (p : ℕ → Bool) (n k : ℕ) → k < n → p k ≡ true
+pub text-kept : (p : ℕ → Bool) (n k : ℕ) → k < n → p k ≡ true
     → list_text (pick (n - k) k p) ≡ line_of KEPT (frame_of k) ++ list_text (pick (n - (k + 1)) (k + 1) p)
 unfolding list_text lines_of
 text-kept p n k h t = ap list_text (pick-kept p n k h t)
@@ -77,13 +77,17 @@ kept-counted marks n h = go n h
     go (suc n) h = rw add-one at (one n (is_kept marks n) refl (omega arith) (go n (omega arith)))
 
 -- an edge beyond the marks isn't kept
-pub marks-end : (marks : List Bool) (n m : ℕ) → m ≡ min n (length marks) → kept_edges n marks ≡ kept_edges m marks
+pub marks-end : (marks : List Bool) (n m : ℕ) → length marks ≤ m → m ≤ n → kept_edges n marks ≡ kept_edges m marks
 unfolding kept_edges
-marks-end marks n m h = elim (dec_lt n (length marks)) [
+marks-end marks n m h l =
+    let e : n ≡ m + (n - m) = omega arith in
+    rw e (pick-beyond (is_kept marks) m (n - m) 0 (λ i k. get_or-eq_default marks false (omega arith)))
+
+-- so it is enough to look at as many edges as there are marks
+pub marks-looked : (marks : List Bool) (n m : ℕ) → m ≡ min n (length marks) → kept_edges n marks ≡ kept_edges m marks
+marks-looked marks n m h = elim (dec_lt n (length marks)) [
   | yes l ↦ let e : n ≡ m = omega arith in rw e
-  | no g ↦
-      let e : n ≡ m + (n - m) = omega arith in
-      rw e (pick-beyond (is_kept marks) m (n - m) 0 (λ i k. get_or-eq_default marks false (omega arith)))
+  | no g ↦ marks-end marks n m (omega arith) (omega arith)
 ]
 
 -- ── what is owed of the listed edges ──

@@ -8,7 +8,7 @@ use native.Mathlib.Omega.{arith}
 use lib.ListN.{length, drop, set}
 use Rattle.std.proofs.Common.{Ok, Err}
 use Rattle.base.specs.Answer.{Answer, refused, answer, number_of, replied}
-use Rattle.base.specs.Limits.{vertices_ok, vertex_limit, edge_limit}
+use Rattle.base.specs.Limits.{vertices_ok, vertex_limit}
 use Rattle.base.specs.declared.refusals.Refusal.{Refusal}
 use Rattle.base.specs.declared.refusals.Refusal.TheVariants as refusal
 use Rattle.base.proofs.Answers.{replied-refused, replied-done}
@@ -70,14 +70,13 @@ module _ {n : ℕ} {text edges₀ edges : List ℕ} {at least count : ℕ}
         let there = end-next KEPT at text f next e in
         list-refused (taken-unlisted _ _ _ _ _ _ r.known f _ there (rw q at h)) r.column.size
 
-    pub reading-next : MayFollow n least k.edge → edge_limit ≤ length edges₀
+    pub reading-next : MayFollow n least k.edge → count < length edges₀
         → Reading n text edges₀ (set edges count k.edge) next (k.edge + 1) (count + 1)
     reading-next o h =
-        let room : count < length edges₀ = omega (arith, r.known.few) in
         record {
           taken = r.taken ++ (k.edge ∷ []);
           known = rw q (taken_next _ _ _ _ _ _ r.known f _ (end-next KEPT at text f next e) (rw q at o));
-          column = storing-next r.column r.known.counted room k.edge;
+          column = storing-next r.column r.known.counted h k.edge;
           within = e.within;
           few = r.few;
         }

@@ -42,7 +42,11 @@ load_network t = and_then (read_network t) (λ m. answer (network_of m))
 unfoldable pub no_network : Network
 no_network = state_of 0 0 no_ends no_ends no_costs
 
--- what was loaded: the network, or the refusal. Its degrees are known of the type
+-- what was loaded, where refusals have these numbers: the network, or the refusal. Its degrees are known of the type
+abbrev pub loaded_by : {E : Type 0} → (E → ℕ) → Result Loaded E → Answer Network
+loaded_by number (Ok l) = answer l.network
+loaded_by number (Err r) = refused (number r)
+
+-- and what was loaded with this core's refusals
 abbrev pub loaded_answer : Result Loaded Refusal → Answer Network
-loaded_answer (Ok l) = answer l.network
-loaded_answer (Err r) = refused (number_of r)
+loaded_answer l = loaded_by number_of l

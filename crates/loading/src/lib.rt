@@ -49,7 +49,7 @@ fn bare(vertices: usize, reserved: usize) -> Network
 }
 
 // The network without vertices and edges, which a pass hands back where the head is refused.
-fn nothing() -> Network
+pub fn nothing() -> Network
     ensures { result ≡ no_network }
 {
     bare(0, 0)

@@ -30,7 +30,8 @@ fn mark(edges: &[u16], count: usize, marks: &mut [bool])
 pub fn load_list(network: &[u8], list: &[u8]) -> Result<LoadedList, Refusal>
     ensures { told result ≡ loaded_list_of (load_list network.now list.now) }
 {
-    let loaded = load(network)?;
+    let answer = load(network);
+    let loaded = answer?;
     let network = loaded.network;
     let mut edges = [0u16; EDGE_LIMIT];
     let count = read_list(network.vertices, list, &mut edges)?;

@@ -6,8 +6,8 @@ use Prim.Native.Nat.{ℕ, zero, suc, ◌+◌, ◌*◌, ◌≤◌, ◌<◌}
 use native.Mathlib.Omega.{arith}
 use lib.ListN.{length, drop, get_or, set, replicate, length-replicate, get_or-replicate}
 use lib.IntN.{ℤ}
-use Rattle.std.proofs.Common.{Ok, Err}
-use Rattle.base.specs.Answer.{Answer, refused, answer, and_then, unless, number_of, over}
+use Rattle.std.proofs.Common.{Result, Ok}
+use Rattle.base.specs.Answer.{Answer, refused, answer, told, and_then, unless, over}
 use Rattle.base.specs.Limits.{vertex_limit}
 use Rattle.base.specs.Refusals.{FORM}
 use Rattle.base.specs.declared.refusals.Refusal.{Refusal}
@@ -26,6 +26,7 @@ use Rattle.network_frames.proofs.Passed.{HeadPassed, head_fine}
 use Rattle.network_text.specs.Text.{Meaning, Edges, next, finished, interrupted, checked, meaning_of, in_frames}
 use Rattle.network_text.specs.Text.{edges_of, read_network, read_reply}
 use Rattle.network_text.specs.Columns.{Columns, NetworkRead}
+use Rattle.network_text.specs.declared.network.ReadNetwork.{ReadNetwork}
 use Rattle.network_text.proofs.Edges.{Passing, Goes, passing-none}
 use Rattle.network_text.proofs.Edges.{passing-end, passing-stop, passing-refused, passing-next, edge-stops}
 use Rattle.network_text.proofs.Edges.{edge_goes}
@@ -187,11 +188,11 @@ module _ {text : List ℕ} {n r : ℕ} {low₀ high₀ : List ℕ} {cost₀ : Li
 
 -- ── what a reader into columns replies, by its answer ──
 module _ {a : Answer Meaning} {low₀ high₀ : List ℕ} {cost₀ : List ℤ} {low high : List ℕ} {cost : List ℤ} where
-  pub columns-refused : {r : Refusal} → a ≡ refused (number_of r) → length low ≡ length low₀
-      → length high ≡ length high₀ → length cost ≡ length cost₀
-      → NetworkRead a low₀ high₀ cost₀ low high cost (Err r)
+  pub columns-refused : {k : ℕ} {r : Result ReadNetwork Refusal} → a ≡ refused k → told r ≡ refused k
+      → length low ≡ length low₀ → length high ≡ length high₀ → length cost ≡ length cost₀
+      → NetworkRead a low₀ high₀ cost₀ low high cost r
   unfolding read_reply
-  columns-refused x l h c = rw x (record { reply = refl; lows = l; highs = h; costs = c })
+  columns-refused x t l h c = rw x (record { reply = t; lows = l; highs = h; costs = c })
 
   pub columns-read : {n r : ℕ} {m : Meaning} → a ≡ answer m → n ≡ m.vertices → r ≡ m.reserved
       → low ≡ over m.low low₀ → high ≡ over m.high high₀ → cost ≡ over m.cost cost₀

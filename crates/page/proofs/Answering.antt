@@ -59,11 +59,11 @@ page-loaded t l = go (load_network t) refl
     go (answer g) q = one g q (read_list g.vertices l) refl
 
 module _ (t l : List ℕ) where
-  page-refused : (k : ℕ) → load_list t l ≡ refused k → page_text t l ≡ refused k
+  pub page-refused : (k : ℕ) → load_list t l ≡ refused k → page_text t l ≡ refused k
   unfolding and_then
   page-refused k e = page-loaded t l ∙ rw e
 
-  page-answered : (g : Network) (K : List Bool) → load_list t l ≡ answer (g, K)
+  pub page-answered : (g : Network) (K : List Bool) → load_list t l ≡ answer (g, K)
       → page_text t l ≡ answer (page_of g (kept_edges g.edges K))
   unfolding and_then
   page-answered g K e = page-loaded t l ∙ rw e

@@ -33,7 +33,7 @@ use Rattle.page.proofs.Printing.{cost-fits, length-line, length-sum}
 -- ── the lines of edges ──
 
 -- the lines that are left, where the edge at the place is listed
-line_kept : (g : Network) (p : ℕ → Bool) (n k : ℕ) → k < n → p k ≡ true
+pub line_kept : (g : Network) (p : ℕ → Bool) (n k : ℕ) → k < n → p k ≡ true
     → edge_lines g (pick (n - k) k p)
     ≡ edge_line k (low_end g k) (high_end g k) (cost_of g k) ++ edge_lines g (pick (n - (k + 1)) (k + 1) p)
 unfolding edge_lines

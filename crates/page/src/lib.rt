@@ -34,7 +34,8 @@ pub fn print_page(network: &[u8], list: &[u8], page: &mut [u8]) -> Result<usize,
     ensures page { page.new ≡
         after (page_text network.now list.now) page.old }
 {
-    let loaded = load_list(network, list)?;
+    let answer = load_list(network, list);
+    let loaded = answer?;
     let length = page_length(&loaded.listed, loaded.network.edges);
     if page.len() < length {
         return Err(Refusal::Short);

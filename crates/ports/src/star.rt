@@ -24,13 +24,13 @@ fn in_order(edge: &[u16; PORT_LIMIT], a: usize, b: usize) -> (usize, usize)
     if edge[b] < edge[a] { (b, a) } else { (a, b) }
 }
 
-// The star of a port and three others, which are sorted.
+// The star of a port and three others, which are sorted; where two have the same edge, the later one comes first.
 fn sorted(edge: &[u16; PORT_LIMIT], reserved: usize, a: usize, b: usize, c: usize) -> Star
     requires { Trio reserved a b c }
     ensures { (result.reserved ≡ reserved) × Around edge.now result }
 {
-    let (low, high) = in_order(edge, a, b);
-    let (middle, third) = in_order(edge, high, c);
+    let (low, high) = in_order(edge, c, b);
+    let (middle, third) = in_order(edge, high, a);
     let (first, second) = in_order(edge, low, middle);
     Star {
         reserved,

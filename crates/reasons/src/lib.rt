@@ -21,6 +21,7 @@ pub fn explain_chain(network: &[u8], chain: &[u8], reasons: &mut [u8]) -> Result
     let accepted = accept_text(network)?;
     let state = accepted.network;
     let mut noted = Noted::new();
-    check_from(state, chain, 0, FIRST_STEP, &mut noted)?;
+    let verdict = check_from(state, chain, 0, FIRST_STEP, &mut noted);
+    verdict?;
     write_reasons(&noted.rules, &noted.steps, state.edges, reasons)
 }

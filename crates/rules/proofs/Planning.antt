@@ -5,8 +5,8 @@ use mathlib.Core.List.{List, [], ◌∷◌, map, append_assoc}
 use Prim.Native.Nat.{ℕ, suc, ◌+◌, ◌-◌, ◌≤◌, ◌<◌}
 use native.Mathlib.Numerals.{add-one}
 use native.Mathlib.Omega.{arith}
-use lib.IntN.{ℤ}
-use lib.ListN.{length, set, take, drop, length-set, take-append-drop}
+use lib.IntN.{ℤ, pos}
+use lib.ListN.{length, set, take, drop, replicate, length-set, take-append-drop}
 use lib.Seq.{take-suc-set, drop-set-lt, drop-drop}
 use Rattle.graph.specs.Split.{split, after}
 use Rattle.graph.specs.Chain.{step_refusal, lift}
@@ -17,6 +17,7 @@ use Rattle.graph.specs.declared.Step.{Step}
 use Rattle.graph.proofs.Rules.{ruled_step}
 use Rattle.graph.proofs.Plans.{chosen-ruled}
 use Rattle.base.specs.Answer.{over}
+use Rattle.base.specs.Limits.{step_limit}
 use Rattle.rules.specs.Running.{Running}
 use Rattle.rules.specs.Plans.{over_at, planned, StepRoom}
 use Rattle.rules.proofs.Steps.{step-splittable, running-after, fewer, v_below}
@@ -52,6 +53,17 @@ room-for room h = record {
   y_room = omega (arith, room.y_room);
   z_room = omega (arith, room.z_room);
   cost_room = omega (arith, room.cost_room);
+}
+
+-- new columns have room for every chain
+pub new-columns : {n : ℕ} → n ≤ step_limit → let column = replicate {A = ℕ} step_limit 0 in
+    StepRoom n column column column column (replicate step_limit (pos 0))
+new-columns h = record {
+  v_room = omega arith;
+  x_room = omega arith;
+  y_room = omega arith;
+  z_room = omega arith;
+  cost_room = omega arith;
 }
 
 module _ (g : Network) where

@@ -1,10 +1,14 @@
 -- A table and the network text that is written for it: what is loaded, accepted and planned of them is the same.
 use mathlib.Core.Path.{◌≡◌, refl, sym, ◌∙◌, ap}
+use mathlib.Core.Logic.{⊎_elim}
 use mathlib.Core.List.{List}
 use Prim.Native.Nat.{ℕ}
+use native.Mathlib.Omega.{arith}
 use Rattle.base.specs.Answer.{Answer, refused, answer, and_then}
+use Rattle.base.specs.Refusals.{TOTAL}
 use Rattle.base.proofs.Answers.{then-refused, then-answer}
 use Rattle.base.proofs.Bools.{no_answer}
+use Rattle.base.proofs.Numbered.{Numbered, answered, then-meeting, meeting-as}
 use Rattle.network_text.specs.Text.{Meaning, network_text, read_network, write_network}
 use Rattle.network_text.proofs.OneToOne.{read_written}
 use Rattle.loading.specs.Known.{Known}
@@ -13,7 +17,7 @@ use Rattle.loading.proofs.Reading.{known_of}
 use Rattle.graph.specs.declared.Network.{Network}
 use Rattle.table_text.specs.Text.{Table, read_table, expanded, stands_for, read_expanded}
 use Rattle.table_text.proofs.Reading.{expanded-read}
-use Rattle.table_text.proofs.Meaning.{stands, expanded-table, expanded-valid}
+use Rattle.table_text.proofs.Meaning.{stands, expanded-table, expanded-valid, expanded-meeting}
 use Rattle.claim.specs.Services.{accepting, accept_network, plan_of, plan_text, plan_given, plan_in}
 use Rattle.tables.specs.Services.{load_table, accept_table, plan_table, table_plan_given, table_network}
 
@@ -25,6 +29,17 @@ table-known t g e = go (read_expanded t) refl e
     go : (a : Answer Meaning) → read_expanded t ≡ a → and_then a (λ m. answer (network_of m)) ≡ answer g → Known g
     go (refused k) q e = no_answer (cc)
     go (answer m) q e = let x : network_of m ≡ g = cc in rw x at (known_of (expanded-valid t m q))
+
+-- its refusals are 1 to 16
+pub table-numbered : (t : List ℕ) → Numbered TOTAL (load_table t)
+unfolding load_table
+table-numbered t =
+    then-meeting (read_expanded t) _
+    (meeting-as
+    (λ k. ⊎_elim (λ w. (omega (arith, w.0), omega (arith, w.1)))
+    (⊎_elim (λ e. (omega arith, omega arith)) (λ e. (omega arith, omega arith))))
+    (expanded-meeting t))
+    (λ m. answered (network_of m))
 
 pub load-refused : (t : List ℕ) (k : ℕ) → read_expanded t ≡ refused k → load_table t ≡ refused k
 unfolding load_table

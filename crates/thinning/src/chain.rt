@@ -68,7 +68,8 @@ pub fn check_from(
     let z = step.z as usize;
     judge_step(network, v, x, y, z, step.cost)?;
     network = network.split(v as u8, x, y, z);
-    check_from(network, chain, next, number + 1, noted)?;
+    let later = check_from(network, chain, next, number + 1, noted);
+    later?;
     noted.note_step(x, y, z, number as u16);
     Ok(())
 }

@@ -1,13 +1,13 @@
 // The network check.
 ghost use Rattle.std.specs.Prelude.{◌≡◌};
-ghost use Rattle.base.specs.Answer.{told, refusal_of};
+ghost use Rattle.base.specs.Answer.{told, told_by, refusal_of};
 ghost use Rattle.graph.specs.Cut.{network_refusal};
 ghost use Rattle.incidence.specs.Degrees.{degrees_of};
 ghost use Rattle.loading.specs.Known.{Known};
-ghost use Rattle.loading.specs.Loading.{loaded_answer};
+ghost use Rattle.loading.specs.Loading.{loaded_by, loaded_answer};
 ghost use Rattle.claim.specs.Services.{accepting, accept_network, acceptance_of};
 
-use base::{Refusal, VERTEX_LIMIT};
+use base::{Refusal, Refuses, VERTEX_LIMIT};
 use cuts::every_cut_four;
 use graph::Network;
 use incidence::all_four;
@@ -28,12 +28,13 @@ fn check_cuts(network: Network, degrees: &[u16; VERTEX_LIMIT]) -> Result<(), Ref
 }
 
 // What was loaded, if it is accepted: its own refusal, then 6, then 7.
-pub fn accept(loaded: Result<Loaded, Refusal>) -> Result<Loaded, Refusal>
-    ensures { loaded_answer result ≡ accepting (loaded_answer loaded) }
+pub fn accept<E: Refuses>(loaded: Result<Loaded, E>) -> Result<Loaded, E>
+    ensures { loaded_by E.number result ≡ accepting (loaded_by E.number loaded) }
 {
-    let loaded = loaded?;
-    check_cuts(loaded.network, &loaded.degrees)?;
-    Ok(loaded)
+    if let Ok(read) = &loaded {
+        check_cuts(read.network, &read.degrees)?;
+    }
+    loaded
 }
 
 // Reads and judges a network text: refusals 1 to 5 as the text meets them, then 6, then 7, or the network.
@@ -43,11 +44,13 @@ pub fn accept_text(text: &[u8]) -> Result<Loaded, Refusal>
     accept(load(text))
 }
 
-// Checks a network that was loaded, from whatever text: its own refusal, then 6, then 7, or accepted.
-pub fn check_loaded(loaded: Result<Loaded, Refusal>) -> Result<(), Refusal>
-    ensures { told result ≡ acceptance_of (accepting (loaded_answer loaded)) }
+// Checks a network that was loaded, from whatever text: its own refusal, then 6, then 7, or accepted. Its own may have
+// any number that the text's reader refuses with.
+pub fn check_loaded<E: Refuses>(loaded: Result<Loaded, E>) -> Result<(), E>
+    ensures { told_by E.number result ≡ acceptance_of (accepting (loaded_by E.number loaded)) }
 {
-    accept(loaded)?;
+    let read = loaded?;
+    check_cuts(read.network, &read.degrees)?;
     Ok(())
 }
 

@@ -1,13 +1,13 @@
 // The planner over texts.
 ghost use Rattle.std.specs.Prelude.{◌≡◌, ◌-◌};
-ghost use Rattle.base.specs.Answer.{told, filled};
-ghost use Rattle.loading.specs.Loading.{loaded_answer};
+ghost use Rattle.base.specs.Answer.{told, told_by, filled};
+ghost use Rattle.loading.specs.Loading.{loaded_by};
 ghost use Rattle.claim.specs.Services.{accepting, texts_given, plan_in, planned_of, plan_reply, planned_chain};
 ghost use Rattle.claim.specs.Services.{planned_kept, Planning};
 
 use super::kept::put_kept;
 use super::network::accept;
-use base::{EDGE_LIMIT, FEWEST_VERTICES, Refusal};
+use base::{EDGE_LIMIT, FEWEST_VERTICES, Refusal, Refuses};
 use chain_text::{chain_length, put_chain};
 use claim::Planned;
 use graph::{Kept, Network};
@@ -63,19 +63,20 @@ fn hand_over(
 }
 
 // Plans a network that was loaded, from whatever text: writes the chain text and
-// the kept text, or gives the network's refusal, or 13 and writes nothing.
-pub fn plan_loaded(
-    loaded: Result<Loaded, Refusal>,
+// the kept text, or gives the network's refusal, or 13 and writes nothing. What
+// its text is refused with may have any number that the text's reader refuses with.
+pub fn plan_loaded<E: Refuses>(
+    loaded: Result<Loaded, E>,
     chain: &mut [u8],
     kept: &mut [u8],
-) -> Result<Planned, Refusal>
-    ensures reply { told result ≡
-        planned_of (plan_in (accepting (loaded_answer loaded)) chain.old kept.old) }
+) -> Result<Planned, E>
+    ensures reply { told_by E.number result ≡
+        planned_of (plan_in (accepting (loaded_by E.number loaded)) chain.old kept.old) }
     ensures chain { chain.new ≡
-        filled (λ t. t.chain) (plan_in (accepting (loaded_answer loaded)) chain.old kept.old)
+        filled (λ t. t.chain) (plan_in (accepting (loaded_by E.number loaded)) chain.old kept.old)
         chain.old }
     ensures kept { kept.new ≡
-        filled (λ t. t.kept) (plan_in (accepting (loaded_answer loaded)) chain.old kept.old)
+        filled (λ t. t.kept) (plan_in (accepting (loaded_by E.number loaded)) chain.old kept.old)
         kept.old }
 {
     let accepted = accept(loaded)?;
@@ -83,7 +84,8 @@ pub fn plan_loaded(
     let mut steps = StepColumns::new();
     let mut marks = [false; EDGE_LIMIT];
     let dropped = plan_steps(state, &mut marks, 0, &mut steps);
-    hand_over(state, Kept { marks }, dropped, &steps, chain, kept)
+    let planned = hand_over(state, Kept { marks }, dropped, &steps, chain, kept)?;
+    Ok(planned)
 }
 
 // Plans a network text: writes the chain text and the kept text, or

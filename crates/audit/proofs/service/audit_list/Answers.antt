@@ -1,7 +1,7 @@
 -- `audit::service::audit_list` meets its contract.
 use mathlib.Core.Path.{◌≡◌}
 use borrow.Author.Rules.{rules}
-use Rattle.std.proofs.Common.{Err}
+use Rattle.std.proofs.Common.{Err, Ok}
 use Rattle.base.specs.Answer.{answer}
 use Rattle.loading.specs.ListLoading.{load_list}
 use Rattle.loading.proofs.ListReading.{list-answered, list-refusal, list-known}
@@ -13,13 +13,16 @@ use Rattle.audit.proofs.service.audit_list.Goals.{In_ok-loaded}
 -- the network and the marks that the texts give
 texts : (c : In_ok-loaded) → let a = c.args in
     load_list a.network.now a.list.now ≡ answer (c.in_ok-loaded.loaded.network, c.in_ok-loaded.loaded.listed)
-texts c = list-answered _ c.in_ok-loaded.ensures
+texts c =
+    let answered : c.load_list-answer.result ≡ Ok c.in_ok-loaded.loaded = search rules in
+    list-answered _ (rw answered at c.load_list-answer.ensures)
 
 pub returns-in_err-loaded : goal.returns-in_err-loaded
 returns-in_err-loaded c =
     let a = c.args in
+    let answered : c.load_list-answer.result ≡ Err c.in_err-loaded.field-0.0 = search rules in
     let e : c.from_residual.result ≡ Err c.in_err-loaded.field-0.0 = search rules in
-    rw e (text-refused a.network.now a.list.now (list-refusal _ c.in_err-loaded.ensures))
+    rw e (text-refused a.network.now a.list.now (list-refusal _ (rw answered at c.load_list-answer.ensures)))
 
 pub audit-requires : goal.audit-requires
 audit-requires c =

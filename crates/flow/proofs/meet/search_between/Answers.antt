@@ -2,7 +2,7 @@
 use mathlib.Core.Logic.{inl, inr}
 use native.Mathlib.Omega.{arith}
 use Rattle.flow.specs.Meet.{Meets}
-use Rattle.flow.specs.Reach.{Comes}
+use Rattle.flow.proofs.Visiting.{comes-on, comes-met}
 use Rattle.flow.proofs.Searches.{number-most, listed, visitable, search-closed, other-apart, turns-begun, parted, met-forward, met-backward, turned}
 use Rattle.flow.proofs.meet.search_between.Goals as goal
 
@@ -29,33 +29,31 @@ visit-requires c =
     let t = c.loop-search.invariant in visitable t.forward (omega arith) _ c.numbered-vertex.ensures t.apart
 
 pub returns-in-Break : goal.returns-in-Break
-unfolding Meets Comes
+unfolding Meets
 returns-in-Break c =
-    let t = c.loop-search.invariant in met-forward t c.in-Break.ensures
+    let t = c.loop-search.invariant in met-forward t (comes-met _ c.in-Break.is c.visit.ensures)
 
 pub numbered-vertex-requires-in-loop-search : goal.numbered-vertex-requires-in-loop-search
 numbered-vertex-requires-in-loop-search c = listed c.loop-search.invariant.backward (omega arith)
 
 pub visit-requires-in-loop-search : goal.visit-requires-in-loop-search
-unfolding Comes
 visit-requires-in-loop-search c =
     visitable c.loop-search.invariant.backward c.if-back-next.false _
-    c.numbered-vertex-in-loop-search.ensures (other-apart c.in_default.ensures)
+    c.numbered-vertex-in-loop-search.ensures (other-apart (comes-on c.in_default.is c.visit.ensures))
 
 pub returns-in-Break-visit : goal.returns-in-Break-visit
-unfolding Meets Comes
+unfolding Meets
 returns-in-Break-visit c =
     let t = c.loop-search.invariant in
-    met-backward t c.if-search-next.false c.numbered-vertex.ensures c.in_default.ensures
-    c.in-Break-visit.ensures
+    met-backward t c.if-search-next.false c.numbered-vertex.ensures (comes-on c.in_default.is c.visit.ensures)
+    (comes-met _ c.in-Break-visit.is c.visit-in-loop-search.ensures)
 
 pub loop-search-smaller : goal.loop-search-smaller
 loop-search-smaller c = omega (arith, number-most c.loop-search.invariant.forward c.if-search-next.false)
 
 pub loop-search-preserved : goal.loop-search-preserved
-unfolding Comes
 loop-search-preserved c =
     let t = c.loop-search.invariant in
-    turned t c.if-search-next.false c.numbered-vertex.ensures c.in_default.ensures
+    turned t c.if-search-next.false c.numbered-vertex.ensures (comes-on c.in_default.is c.visit.ensures)
     c.if-back-next.false c.numbered-vertex-in-loop-search.ensures
-    c.in_default-visit.ensures
+    (comes-on c.in_default-visit.is c.visit-in-loop-search.ensures)

@@ -19,7 +19,7 @@ returns-then-not-round c = λ g laid. (
 )
 
 pub loop-preserved : goal.loop-preserved
-loop-preserved c = level-on c.loop.invariant c.if-not-round.false c.round.ensures
+loop-preserved c = level-on c.loop.invariant (omega arith) c.if-not-round.false c.round.ensures
 
 pub returns : goal.returns
 returns c = λ g laid.

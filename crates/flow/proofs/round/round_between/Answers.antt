@@ -3,20 +3,24 @@
 use mathlib.Core.Bool.{true, false}
 use native.Mathlib.Omega.{arith}
 use borrow.Author.Rules.{rules}
-use Rattle.flow.specs.Meet.{Meets}
-use Rattle.flow.proofs.Roots.{Roots, root_of, two-roots, searching, roots-apart}
-use Rattle.flow.proofs.Rounding.{first-sendable, second-sendable, between-sent, between-full}
+use Rattle.flow.proofs.Roots.{Roots, root_of, searching, roots-apart}
+use Rattle.flow.proofs.Rounding.{rooted-pair, meets-at, meets-nothing, first-sendable, second-sendable}
+use Rattle.flow.proofs.Rounding.{between-sent, between-full}
 use Rattle.flow.proofs.round.round_between.Goals as goal
 use Rattle.flow.proofs.round.round_between.Goals.{After-root_pair-2}
 
 -- the sources are the roots of the first search, and the sinks those of the second
 sources : (c : After-root_pair-2) → Roots c.args.mate.now false c.root_pair.new.self 0 (root_of c.args.sources)
 sources c =
-    rw (c.root_pair.ensures, c.begin.ensures) (two-roots _ false _ (search rules) _ (omega arith) (omega arith))
+    let a = c.args in
+    rooted-pair a.sources a.search.now.trail (search rules) (omega arith) (omega arith)
+    (rw c.begin.ensures at c.root_pair.ensures)
 
 sinks : (c : After-root_pair-2) → Roots c.args.mate.now true c.root_pair-2.new.self 0 (root_of c.args.sinks)
 sinks c =
-    rw (c.root_pair-2.ensures, c.begin-2.ensures) (two-roots _ true _ (search rules) _ (omega arith) (omega arith))
+    let a = c.args in
+    rooted-pair a.sinks a.back.now.trail (search rules) (omega arith) (omega arith)
+    (rw c.begin-2.ensures at c.root_pair-2.ensures)
 
 pub search_between-requires : goal.search_between-requires
 search_between-requires c =
@@ -28,24 +32,18 @@ search_between-requires c =
     (searching r m b, searching s m b, roots-apart c.requires.2 r s)
 
 pub returns-in_default : goal.returns-in_default
-unfolding Meets
 returns-in_default c =
     let planted = (goal.at.returns-in_default c).After-root_pair-2 in
-    between-full (sources planted) (sinks planted) c.in_default.ensures
+    between-full (sources planted) (sinks planted) (meets-nothing c.in_default.is c.search_between.ensures)
 
 pub augment-requires : goal.augment-requires
-unfolding Meets
-augment-requires c = first-sendable c.in-Some.ensures
+augment-requires c = first-sendable (meets-at c.in-Some.is c.search_between.ensures)
 
 pub augment-requires-2 : goal.augment-requires-2
-unfolding Meets
-augment-requires-2 c =
-    let planted = (goal.at.augment-requires-2 c).After-root_pair-2 in
-    second-sendable c.in-Some.ensures c.augment.ensures (sinks planted).way
+augment-requires-2 c = second-sendable (meets-at c.in-Some.is c.search_between.ensures) c.augment.ensures
 
 pub returns : goal.returns
-unfolding Meets
 returns c =
     let planted = (goal.at.returns c).After-root_pair-2 in
-    let s = sinks planted in
-    between-sent c.in-Some.ensures c.augment.ensures s.way (sources planted) s c.augment-2.ensures
+    between-sent (meets-at c.in-Some.is c.search_between.ensures) c.augment.ensures (sources planted) (sinks planted)
+    c.augment-2.ensures

@@ -2,15 +2,14 @@
 use mathlib.Core.Bool.{false}
 use native.Mathlib.Omega.{arith}
 use borrow.Author.Rules.{rules}
-use Rattle.flow.specs.Meet.{Finds}
-use Rattle.flow.proofs.Roots.{Roots, one-root, searching}
-use Rattle.flow.proofs.Rounding.{one-apart, to-sendable, to-sent, to-full}
+use Rattle.flow.proofs.Roots.{Roots, searching}
+use Rattle.flow.proofs.Rounding.{rooted-one, one-apart, finds-at, finds-nothing, to-sendable, to-sent, to-full}
 use Rattle.flow.proofs.round.round_to.Goals as goal
 use Rattle.flow.proofs.round.round_to.Goals.{After-root}
 
 -- the vertex is the only root
 only-root : (c : After-root) → Roots c.args.mate.now false c.root.new.self 1 (λ _. c.args.source)
-only-root c = rw (c.root.ensures, c.begin.ensures) (one-root _ false _ (search rules) _ (omega arith))
+only-root c = rooted-one c.args.search.now.trail (search rules) (omega arith) (rw c.begin.ensures at c.root.ensures)
 
 pub search_to-requires : goal.search_to-requires
 search_to-requires c =
@@ -18,14 +17,15 @@ search_to-requires c =
     (searching r c.requires.0 c.requires.1, one-apart c.args.marks.now r c.requires.2)
 
 pub returns-in_default : goal.returns-in_default
-unfolding Finds
 returns-in_default c =
-    to-full (only-root (goal.at.returns-in_default c).After-root) c.requires.1 c.in_default.ensures
+    let over = finds-nothing c.in_default.is c.search_to.ensures in
+    to-full (only-root (goal.at.returns-in_default c).After-root) c.requires.1 over
 
 pub augment-requires : goal.augment-requires
-unfolding Finds
-augment-requires c = to-sendable (only-root (goal.at.augment-requires c).After-root) c.in-Some.ensures
+augment-requires c =
+    to-sendable (only-root (goal.at.augment-requires c).After-root) (finds-at c.in-Some.is c.search_to.ensures)
 
 pub returns : goal.returns
-unfolding Finds
-returns c = to-sent (only-root (goal.at.returns c).After-root) c.in-Some.ensures c.augment.ensures
+returns c =
+    let met = finds-at c.in-Some.is c.search_to.ensures in
+    to-sent (only-root (goal.at.returns c).After-root) met c.augment.ensures

@@ -1,11 +1,17 @@
 -- `host_texts::lists::thinning_read_list` meets its contract.
+use mathlib.Core.Path.{◌≡◌}
+use Rattle.std.proofs.Common.{rules}
+use Rattle.base.specs.Answer.{told, refusal_of, number_given}
 use Rattle.base.proofs.Given.{given-number, given-length}
 use Rattle.host_texts.proofs.lists.thinning_read_list.Goals as goal
 
 pub returns : goal.returns
 returns c =
+    let out : c.give_out.new.out ≡ number_given (λ value. value) (told c.read_list.result) c.args.count.now =
+    search (rules, c.give_out.ensures.out) in
+    let number : c.give_out.result ≡ refusal_of (told c.read_list.result) = search (rules, c.give_out.ensures.number) in
     record {
-      number = given-number _ _ c.read_list.ensures.0 c.give_out.ensures.number;
+      number = given-number _ _ c.read_list.ensures.0 number;
       edges = c.read_list.ensures.1;
-      count = given-length _ _ c.read_list.ensures.0 _ c.give_out.ensures.out;
+      count = given-length _ _ c.read_list.ensures.0 _ out;
     }

@@ -1,6 +1,8 @@
 -- `list_text::list::parse_list` meets its contract.
 use mathlib.Core.Path.{sym, ◌∙◌}
+use Prim.Native.Nat.{◌<◌}
 use native.Mathlib.Omega.{arith}
+use lib.ListN.{length}
 use borrow.Author.Rules.{rules}
 use Rattle.frame.proofs.Runs.{next-read}
 use Rattle.list_text.proofs.Taken.{tested}
@@ -29,8 +31,11 @@ loop-at-smaller c =
 
 pub loop-at-preserved : goal.loop-at-preserved
 loop-at-preserved c =
-    reading-next c.loop-at.invariant (next-read _ _ _ _ _ c.in-Ok.ensures) c.of-edge.ensures
-    (tested c.loop-at.invariant.known _ _ c.may_follow.ensures c.if-not-may_follow.false) c.requires
+    let w = c.loop-at.invariant in
+    let follows = tested w.known _ _ c.may_follow.ensures c.if-not-may_follow.false in
+    let room : c.loop-at.count < length c.args.edges.now =
+    omega (arith, w.few, w.known.few, follows.above, follows.inside, c.requires) in
+    reading-next w (next-read _ _ _ _ _ c.in-Ok.ensures) c.of-edge.ensures follows room
 
 pub returns : goal.returns
 returns c = reading-all c.loop-at.invariant (search rules)

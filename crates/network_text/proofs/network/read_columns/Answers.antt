@@ -11,7 +11,7 @@ use Rattle.network_text.proofs.network.read_columns.Goals as goal
 pub returns-in_err-head : goal.returns-in_err-head
 returns-in_err-head c =
     let e : c.from_residual.result ≡ Err c.in_err-head.field-0.0 = search rules in
-    rw e (columns-refused (head-refused _ c.in_err-head.ensures) refl refl refl)
+    rw e (columns-refused (head-refused _ c.in_err-head.ensures) refl refl refl refl)
 
 pub overflow_mul-i-end : goal.overflow_mul-i-end
 overflow_mul-i-end c = omega (arith, (head_fine _ c.in_ok-head.ensures).few)
@@ -24,7 +24,7 @@ returns-in_err-edge c =
     let e : c.from_residual-in_err-edge.result ≡ Err c.in_err-edge.field-0.0 = search rules in
     let w = c.loop-i.invariant in
     rw e
-    (columns-refused (reading-refused w c.loop-i-test.true c.in_err-edge.ensures) w.lows.size w.highs.size w.costs.size)
+    (columns-refused (reading-refused w c.loop-i-test.true c.in_err-edge.ensures) refl w.lows.size w.highs.size w.costs.size)
 
 pub overflow_cast-low : goal.overflow_cast-low
 overflow_cast-low c =
@@ -44,7 +44,7 @@ loop-i-preserved c =
 pub returns-then-at-text : goal.returns-then-at-text
 returns-then-at-text c =
     let w = c.loop-i.invariant in
-    columns-refused (reading-left w (omega arith) c.if-at-text.true) w.lows.size w.highs.size
+    columns-refused (reading-left w (omega arith) c.if-at-text.true) refl w.lows.size w.highs.size
     w.costs.size
 
 pub returns : goal.returns

@@ -14,7 +14,7 @@ use Rattle.table_text.proofs.reader.read_table.Goals as goal
 pub returns-in_err-head : goal.returns-in_err-head
 returns-in_err-head c =
     let e : c.from_residual.result ≡ Err c.in_err-head.field-0.0 = search rules in
-    rw e (columns-refused (expanded-refused _ (head-refused _ c.in_err-head.ensures)) refl refl refl)
+    rw e (columns-refused (expanded-refused _ (head-refused _ c.in_err-head.ensures)) refl refl refl refl)
 
 pub loop-init : goal.loop-init
 loop-init c = reading-none c.in_ok-head.ensures
@@ -24,7 +24,7 @@ returns-in_err-span c =
     let w = c.loop.invariant in
     let e : c.from_residual-in_err-span.result ≡ Err c.in_err-span.field-0.0 = search rules in
     rw e
-    (columns-refused (expanded-refused _ (reading-refused w c.loop-test.true c.in_err-span.ensures)) w.lows.size
+    (columns-refused (expanded-refused _ (reading-refused w c.loop-test.true c.in_err-span.ensures)) refl w.lows.size
     w.highs.size w.costs.size)
 
 pub lay-requires : goal.lay-requires
@@ -43,14 +43,14 @@ loop-preserved c =
 pub returns-then-at-text : goal.returns-then-at-text
 returns-then-at-text c =
     let w = c.loop.invariant in
-    columns-refused (expanded-refused _ (reading-left w c.loop-test.false c.if-at-text.true)) w.lows.size
+    columns-refused (expanded-refused _ (reading-left w c.loop-test.false c.if-at-text.true)) refl w.lows.size
     w.highs.size w.costs.size
 
 pub returns-then-edges-vertices : goal.returns-then-edges-vertices
 returns-then-edges-vertices c =
     let w = c.loop.invariant in
     columns-refused
-    (expanded-refused _ (reading-off w c.loop-test.false c.if-at-text.false c.if-edges-vertices.true)) w.lows.size
+    (expanded-refused _ (reading-off w c.loop-test.false c.if-at-text.false c.if-edges-vertices.true)) refl w.lows.size
     w.highs.size w.costs.size
 
 pub returns : goal.returns

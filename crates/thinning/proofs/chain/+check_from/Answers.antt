@@ -10,7 +10,7 @@ use mir.Syntax.{w64}
 use mir.Val.{to_z, of_z, SFits}
 use mir.Facts.{to_z-of_z}
 use borrow.Author.Rules.{rules}
-use Rattle.std.proofs.Common.{Err}
+use Rattle.std.proofs.Common.{Ok, Err}
 use Rattle.base.specs.Answer.{Answer, refused, refusal_of}
 use Rattle.departures.specs.Columns.{all_last, no_steps, ending_noted, rules_back, steps_back}
 use Rattle.frame.specs.Table.{STEP}
@@ -25,8 +25,8 @@ use Rattle.graph.specs.declared.Network.{Network}
 use Rattle.graph.specs.declared.Step.{Step}
 use Rattle.rules.proofs.Steps.{step-splittable, running-after, v_below, fewer}
 use Rattle.claim.specs.Verdicts.{step_in, dropped_in, check_ending, check_chain, rules_in, numbers_in, column_after}
-use Rattle.claim.proofs.Chains.{refused-leaves, kept_leaves, was-refused, was-kept, lifted-refused}
-use Rattle.claim.proofs.Chains.{lifted-kept, chain-end, chain-at-broken, chain-at-refused, chain-at-more}
+use Rattle.claim.proofs.Chains.{refused-leaves, kept_leaves, was-met, was-kept, lifted-refused}
+use Rattle.claim.proofs.Chains.{lifted-kept, chain-end, chain-at-broken, chain-at-met, chain-at-more}
 use Rattle.claim.proofs.Chains.{same-column, rules-at-end, numbers-at-end, rules-at-more, numbers-at-more}
 use Rattle.claim.proofs.Meets.{chain-numbered}
 use Rattle.thinning.proofs.chain.+check_from.Goals as goal
@@ -113,7 +113,7 @@ returns-in_err-judge_step t c =
     let e : c.from_residual.result ≡ Err c.in_err-judge_step.field-0.0 = search rules in
     let left =
     refused-leaves
-    (chain-at-refused a.network a.chain.now a.at c.if-remaining-le2.false read.is (judged s)
+    (chain-at-met a.network a.chain.now a.at c.if-remaining-le2.false read.is (judged s)
     (named read c.of-step.ensures fits) _ c.in_err-judge_step.ensures) in
     record { refusal = rw e left.0; rules = left.1 _ a.noted.now.rules; steps = left.1 _ a.noted.now.steps }
 
@@ -127,10 +127,10 @@ overflow_cast-v t c =
 pub split-network-requires : goal.split-network-requires
 split-network-requires t c = splits (goal.at.split-network-requires t c).In_ok-judge_step
 
-pub check_from-requires : goal.check_from-requires
+pub check_from-later-requires : goal.check_from-later-requires
 unfolding after split
-check_from-requires t c =
-    let at = goal.at.check_from-requires t c in
+check_from-later-requires t c =
+    let at = goal.at.check_from-later-requires t c in
     let run = c.requires.0 in
     let more = c.if-remaining-le2.false in
     let judged = judged c.of-step.result in
@@ -147,16 +147,17 @@ check_from-requires t c =
       ),
     )
 
-pub returns-in_err-check_from : goal.returns-in_err-check_from
-returns-in_err-check_from t c =
-    let at = goal.at.returns-in_err-check_from t c in
+pub returns-in_err-later : goal.returns-in_err-later
+returns-in_err-later t c =
+    let at = goal.at.returns-in_err-later t c in
     let a = c.args in
-    let e : c.from_residual-in_err-check_from.result ≡ Err c.in_err-check_from.field-0.0 = search rules in
-    let later = was-refused _ _ c.in_err-check_from.ensures.refusal in
+    let e : c.from_residual-in_err-later.result ≡ Err c.in_err-later.field-0.0 = search rules in
+    let refused : c.check_from-later.result ≡ Err c.in_err-later.field-0.0 = search rules in
+    let later = was-met _ _ (rw refused at c.check_from-later.ensures.refusal) in
     let here = at-more at.After-split-network ∙ lifted-refused (judged c.of-step.result) later in record {
       refusal = rw e (refused-leaves here).0;
-      rules = stayed later here _ _ _ c.check_from.ensures.rules;
-      steps = stayed later here _ _ _ c.check_from.ensures.steps;
+      rules = stayed later here _ _ _ c.check_from-later.ensures.rules;
+      steps = stayed later here _ _ _ c.check_from-later.ensures.steps;
     }
 
 pub note_step-requires : goal.note_step-requires
@@ -178,19 +179,20 @@ returns t c =
     let named = named read c.of-step.ensures fits in
     let after_is : h ≡ after a.network u = c.split-network.ensures in
     let behind = drop c.in-Ok.next a.chain.now in
-    let later = was-kept _ (chain-numbered (h.remaining - 2) h _) c.in_ok-check_from.ensures.refusal in
+    let passed : c.check_from-later.result ≡ Ok c.in_ok-later.field-0 = search rules in
+    let later = was-kept _ (chain-numbered (h.remaining - 2) h _) (rw passed at c.check_from-later.ensures.refusal) in
     let kept = kept_leaves later.1 in
     let left = kept_leaves (at-more at.After-split-network ∙ lifted-kept u later.1) in record {
       refusal = left.0;
       rules = c.note_step.ensures.rules
           ∙ ap (rules_back u.x u.y u.z)
-          (c.check_from.ensures.rules ∙ sym (kept.1 _ a.noted.now.rules) ∙ ap (λ k. rules_in k h behind) (add-one a.number))
+          (c.check_from-later.ensures.rules ∙ sym (kept.1 _ a.noted.now.rules) ∙ ap (λ k. rules_in k h behind) (add-one a.number))
           ∙ rules-at-more a.number a.network a.chain.now a.at more u named _ h after_is read.place
           (omega (arith, w.z_edge, w.room))
           ∙ left.1 _ a.noted.now.rules;
       steps = c.note_step.ensures.steps
           ∙ ap (steps_back u.x u.y a.number)
-          (c.check_from.ensures.steps ∙ sym (kept.1 _ a.noted.now.steps) ∙ ap (λ k. numbers_in k h behind) (add-one a.number))
+          (c.check_from-later.ensures.steps ∙ sym (kept.1 _ a.noted.now.steps) ∙ ap (λ k. numbers_in k h behind) (add-one a.number))
           ∙ numbers-at-more a.number a.network a.chain.now a.at more u named _ h after_is read.place
           ∙ left.1 _ a.noted.now.steps;
     }

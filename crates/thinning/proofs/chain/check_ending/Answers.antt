@@ -16,7 +16,7 @@ use Rattle.frame.proofs.Runs.{Next, next-read, none_read}
 use Rattle.graph.specs.Chain.{end_refusal}
 use Rattle.rules.proofs.Steps.{dropped-below}
 use Rattle.claim.specs.Verdicts.{dropped_in}
-use Rattle.claim.proofs.Chains.{refused-leaves, kept_leaves, ending-broken, ending-refused, ending-longer}
+use Rattle.claim.proofs.Chains.{refused-leaves, kept_leaves, ending-broken, ending-met, ending-longer}
 use Rattle.claim.proofs.Chains.{ending-kept}
 use Rattle.thinning.proofs.chain.check_ending.Goals as goal
 use Rattle.thinning.proofs.chain.check_ending.Goals.{In_ok-judge_ending}
@@ -46,7 +46,7 @@ returns-in_err-judge_ending c =
     let read = next-read _ _ _ _ _ c.in-Ok.ensures in
     let e : c.from_residual.result ≡ Err c.in_err-judge_ending.field-0.0 = search rules in
     let judged = c.in_err-judge_ending.ensures ∙ ap (end_refusal a.network) (dropped read c.of-edge.ensures) in
-    let left = refused-leaves (ending-refused a.network _ read.is _ judged) in
+    let left = refused-leaves (ending-met a.network _ read.is _ judged) in
     record { refusal = rw e left.0; rules = left.1 _ a.noted.now.rules; steps = refl }
 
 pub returns-then-next-chain : goal.returns-then-next-chain

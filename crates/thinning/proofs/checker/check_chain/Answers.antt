@@ -11,7 +11,7 @@ use Rattle.base.proofs.Answers.{refuses}
 use Rattle.departures.specs.Columns.{kept_by}
 use Rattle.claim.specs.Verdicts.{check_chain}
 use Rattle.claim.specs.Services.{accept_network, kept_in}
-use Rattle.claim.proofs.Chains.{kept_leaves, was-refused, was-kept}
+use Rattle.claim.proofs.Chains.{kept_leaves, was-met, was-kept}
 use Rattle.claim.proofs.Meets.{chain-numbered}
 use Rattle.claim.proofs.Accepting.{known-running, accept-loaded, accepted-running, running-few, passing-keeping}
 use Rattle.claim.proofs.Accepting.{accepted-whole, chain-network-refused, chain-refused, chain-kept}
@@ -62,7 +62,7 @@ returns-in_err-check_from c =
     let a = c.args in
     let accepted = accepted (goal.at.returns-in_err-check_from c).In_ok-accepted in
     let e : c.from_residual-in_err-check_from.result ≡ Err c.in_err-check_from.field-0.0 = search rules in
-    let met = was-refused _ _ c.in_err-check_from.ensures.refusal in
+    let met = was-met _ _ c.in_err-check_from.ensures.refusal in
     let left = refuses _ a.kept.now _ (chain-refused a.network.now a.chain.now _ accepted _ met) in
     record { reply = rw e left.0; kept = left.1 }
 

@@ -1,6 +1,6 @@
--- `departures::Noted::mark_kept` meets its contract.
+-- `departures::mark_kept` meets its contract.
 use Rattle.departures.proofs.Columns.{marked-none, marked_all}
-use Rattle.departures.proofs.Noted.mark_kept.Goals as goal
+use Rattle.departures.proofs.mark_kept.Goals as goal
 
 pub loop-edge-init : goal.loop-edge-init
 loop-edge-init c = rw c.requires.1 marked-none

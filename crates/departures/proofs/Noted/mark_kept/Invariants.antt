@@ -1,6 +1,0 @@
--- What the loop of `departures::Noted::mark_kept` keeps: the edges below `edge` are marked by their rules, and no others.
-use Rattle.departures.proofs.Columns.{Marked}
-use Rattle.departures.proofs.Noted.mark_kept.Given as goal
-
-abbrev pub invariant-loop-edge : goal.invariant-loop-edge
-invariant-loop-edge l = Marked l.self.rules l.edges l.edge l.marks
