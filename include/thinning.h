@@ -11,8 +11,8 @@
  * nobody else writes what it is given, or reads what it writes.
  *
  * thinning_plan, thinning_plan_candidates, thinning_plan_table, thinning_check_chain and thinning_reasons go as deep as
- * there are vertices: at 256 vertices the three planners take 1.46 MB of stack, the chain check 1.47 MB and the reasons
- * 1.48 MB, measured by the command ./stack.
+ * there are vertices: at 256 vertices the three planners take up to 1.46 MB of stack, the chain check 1.47 MB and the
+ * reasons 1.48 MB, measured by the command ./stack.
  *
  * The refusals:
  *    1  the form: a broken line, a wrong kind or length, a missing frame, bytes left over; columns of a wrong length

@@ -2,7 +2,7 @@
 use mathlib.Core.Path.{◌≡◌, refl, ◌∙◌, ap}
 use mathlib.Core.Bool.{Bool, true, false, cond, ◌&&◌}
 use mathlib.Core.List.{List, ◌∷◌, []}
-use Prim.Native.Nat.{ℕ, suc, ◌≤◌, ◌<◌}
+use Prim.Native.Nat.{ℕ, suc, ◌+◌, ◌≤◌, ◌<◌}
 use native.Mathlib.Omega.{arith}
 use native.Mathlib.Decide.{ℕ_discrete, dec_lt}
 use lib.Dec.{eqb, ltb}
@@ -116,6 +116,18 @@ module _ {rules : List ℕ} {n : ℕ} where
     size = length-replicate edge_limit false;
     done = λ e l. absurd (omega arith);
     rest = λ e l h. get_or-replicate edge_limit e false false h;
+  }
+
+  pub marked_next : {i : ℕ} {marks : List Bool} → Marked rules n i marks → i < n → n ≤ edge_limit
+      → {b : Bool} → b ≡ keeps (at rules i) → Marked rules n (i + 1) (set marks i b)
+  marked_next {i} {marks} m l room {b} q = record {
+    within = omega arith;
+    size = length-set marks i b ∙ m.size;
+    done = λ e h. elim (ℕ_discrete e i) [
+      | yes p ↦ rw p (get_or-set_same marks i b false (omega (arith, m.size)) ∙ q)
+      | no ne ↦ get_or-set_other marks i e b false ne ∙ m.done e (omega arith)
+    ];
+    rest = λ e h k. get_or-set_other marks i e b false (λ p. omega arith) ∙ m.rest e (omega arith) k;
   }
 
   pub marked_all : {i : ℕ} {marks : List Bool} → Marked rules n i marks → n ≤ i → marks ≡ kept_by n rules

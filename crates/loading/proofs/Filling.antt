@@ -12,6 +12,7 @@ use lib.IntN.{ℤ, pos}
 use mir.Syntax.{w64}
 use mir.Val.{to_z, of_z}
 use mir.Facts.{to_z-of_z}
+use Rattle.std.proofs.Common.{Ok}
 use Rattle.base.specs.Answer.{refused, answer, over}
 use Rattle.base.specs.Limits.{edge_limit, vertex_limit, cost_ok}
 use Rattle.base.specs.Refusals.{FORM}
@@ -27,7 +28,8 @@ use Rattle.incidence.specs.Degrees.{degrees_of, degrees_among, end_counted}
 use Rattle.incidence.proofs.Tally.{no_edge, one-more-edge, all_edges, degrees-below}
 use Rattle.network_text.specs.Text.{Meaning, Valid, meaning_of}
 use Rattle.network_frames.specs.Frames.{read_edge}
-use Rattle.loading.specs.Loading.{state_of, no_ends, no_costs, network_of}
+use Rattle.loading.specs.Loading.{state_of, no_ends, no_costs, network_of, loaded_answer}
+use Rattle.loading.specs.declared.loaded.Loaded.{Loaded}
 use Rattle.loading.specs.Pass.{Run, onward, run_of, tally_of, pass_over}
 use Rattle.loading.proofs.Counting.{counted_none, counted_next, counted-most}
 
@@ -254,3 +256,8 @@ module _ {m : Meaning} where
       stored-degrees =
           let e : i ≡ (network_of m).edges = unfold network_of state_of in omega (arith, w.lows.within) in
           w.tallied ∙ rw (e, stored-all) (all_edges (network_of m))
+
+      -- and so what is made of them is what was loaded
+      pub stored_loaded : (loaded : Loaded) → loaded.network ≡ g → loaded.degrees ≡ degrees
+          → (loaded_answer (Ok loaded) ≡ answer (network_of m)) × (loaded.degrees ≡ degrees_of (network_of m))
+      stored_loaded loaded e d = (ap answer (e ∙ stored-all), d ∙ stored-degrees ∙ ap degrees_of stored-all)

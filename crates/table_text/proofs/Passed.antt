@@ -8,8 +8,11 @@ use Prim.Native.Nat.{ℕ, zero, suc, ◌*◌, ◌≤◌, ◌<◌}
 use native.Mathlib.Omega.{arith}
 use lib.Dec.{leb, ltb, eqb}
 use borrow.Author.Tests.{ltb-true, leb-true, lt-ltb, le-leb, eq-eqb}
-use Rattle.base.specs.Answer.{Answer, refused, answer, and_then, unless}
+use Rattle.base.specs.Answer.{Answer, refused, answer, and_then, unless, told}
 use Rattle.base.specs.Limits.{cost_ok}
+use Rattle.base.specs.declared.refusals.Refusal.{Refusal}
+use Rattle.std.proofs.Common.{Result}
+use Rattle.frame.proofs.Runs.{read_as}
 use Rattle.base.specs.Refusals.{COST, ENDS, WEIGHT, TOTAL}
 use Rattle.base.proofs.Bools.{no_answer, never, eqb_is}
 use Rattle.frame.specs.Table.{TABLE_HEAD}
@@ -121,3 +124,7 @@ module _ (t : List ℕ) {p : TableHead × ℕ} (x : answer p ≡ read_table_head
           → TableHeadPassed p.0.vertices p.0.reserved p.0.spans
       go (refused k) y = no_answer (cc)
       go (answer l) y = own (table_head_of l.0) l.1 _ refl _ refl y
+
+-- a head that is read, by the case that is found
+pub head_as : {r case : Result (TableHead × ℕ) Refusal} {a : Answer (TableHead × ℕ)} → told r ≡ a → r ≡ case → told case ≡ a
+head_as x e = read_as e x
