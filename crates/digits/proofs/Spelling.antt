@@ -15,6 +15,7 @@ use lib.Arith.{digits_div, digits_mod}
 use borrow.Author.Tests.{le-ltb, lt-ltb, ltb-true}
 use Rattle.digits.specs.Hexadecimal.{value_of, digit_of, all_digits, number_of, number_in, spell}
 use Rattle.std.proofs.Common.{Some, None}
+use Rattle.std.proofs.lemmas.Grind.{pow_more}
 use Rattle.base.proofs.Bools.{no_answer, and_left, and_right}
 use Rattle.digits.proofs.Values.{digit_value, value-digit}
 
@@ -84,6 +85,19 @@ digits_append (c ∷ s) t = go (ltb (value_of c) 16) (digits_append s t)
     go true e = e
     go false e = refl
 
+-- a digit is read: what it and the digits before it spell with the rest, and that all from it on are digits exactly if
+-- all behind it are
+module _ (s : List ℕ) (i : ℕ) (h : i < length s) where
+  pub number-more : (v : ℕ) → number_of v (drop i s) ≡ number_of (v * 16 + value_of (get_or s i 0)) (drop (i + 1) s)
+  unfolding number_of
+  number-more v = rw (add-one, drop-cons s i 0) refl
+
+  pub digits-more : value_of (get_or s i 0) < 16 → all_digits (drop i s) ≡ all_digits (drop (i + 1) s)
+  unfolding all_digits
+  digits-more l = rw (add-one, drop-cons s i 0, lt-ltb (value_of (get_or s i 0)) 16 l) refl
+
+pub ruleset read_digit = (pow_more, number-more, digits-more)
+
 -- what is known while digits are read: the digits that are left spell, behind the number so far, what all of them
 -- spell, and are digits exactly if all are
 pub record Reading (s : List ℕ) (v i : ℕ) : Type 0 where
@@ -110,14 +124,7 @@ module _ (s : List ℕ) (v i : ℕ) (r : Reading s v i) where
         rw (← r.digits, x)
 
     pub reading-more : d < 16 → Reading s (v * 16 + d) (i + 1)
-    unfolding number_of all_digits
-    reading-more l =
-        record {
-          within = omega arith;
-          room = rw (add-one, pow-suc) (omega (arith, r.room));
-          number = rw (e, add-one) (rw (drop-cons s i 0) at r.number);
-          digits = rw add-one (rw (drop-cons s i 0, lt-ltb (value_of (get_or s i 0)) 16 (omega arith)) at r.digits);
-        }
+    reading-more l = grind (arith, read_digit)
 
     pub reading-fits : length s ≤ 16 → d < 16 → v * 16 + d < 2 ^ 64
     reading-fits k l =

@@ -39,6 +39,7 @@ fn value_of(values: &[u8; BYTE_VALUES], byte: u8) -> u64
 }
 
 // The number that at most sixteen bytes spell, if all are digits.
+#[tactic(auto, using(crate::proofs::Spelling::read_digit))]
 pub fn read_number(text: &[u8], values: &[u8; BYTE_VALUES]) -> Option<u64>
     requires { (length text.now ≤ 16) × (values.now ≡ digit_values) }
     ensures { result ≡ number_in text.now }

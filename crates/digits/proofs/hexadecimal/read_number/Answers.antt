@@ -2,7 +2,7 @@
 -- Assumes nothing.
 use native.Mathlib.Omega.{arith}
 use borrow.Author.Rules.{rules}
-use Rattle.digits.proofs.Spelling.{reading-none, reading-end, reading-stop, reading-more, reading-fits}
+use Rattle.digits.proofs.Spelling.{reading-none, reading-end, reading-stop, reading-fits}
 use Rattle.digits.proofs.hexadecimal.read_number.Goals as goal
 
 pub loop-byte-init : goal.loop-byte-init
@@ -29,11 +29,6 @@ overflow_add-number c =
       fits = reading-fits _ l.number l.byte-index l.invariant _ c.value_of-value.ensures (search rules)
           (search rules) c.if-value-ge-BASE.false;
     }
-
-pub loop-byte-preserved : goal.loop-byte-preserved
-loop-byte-preserved c =
-    let l = c.loop-byte in
-    reading-more _ l.number l.byte-index l.invariant _ c.value_of-value.ensures (search rules) c.if-value-ge-BASE.false
 
 pub returns : goal.returns
 returns c = reading-end _ c.loop-byte.number c.loop-byte.byte-index c.loop-byte.invariant (search rules)

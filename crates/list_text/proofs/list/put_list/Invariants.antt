@@ -6,4 +6,4 @@ use Rattle.list_text.proofs.list.put_list.Given as goal
 
 abbrev pub invariant-loop-edge : goal.invariant-loop-edge
 invariant-loop-edge l =
-    Written (list_text l.edges) (list_text (drop l.edge-index l.edges)) l.initial.text l.text l.at
+    Written (list_text l.fn.edges) (list_text (drop l.edge-index l.edges)) l.initial.text l.text l.at
