@@ -10,7 +10,7 @@ use Rattle.list_text.specs.Text.{list_text}
 use Rattle.list_text.proofs.Texts.{edge-left, text-end}
 use Rattle.list_text.proofs.list.put_list.Goals as goal
 
--- nothing is written yet, and the loop goes over all the edges
+-- nothing is written yet, and what the loop goes over, `edges` or a slice of it by that name, is all the edges
 pub loop-edge-init : goal.loop-edge-init
 loop-edge-init c =
     let none = written_none (list_text c.args.edges.now) c.args.text.now c.requires in
