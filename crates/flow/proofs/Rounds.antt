@@ -175,6 +175,34 @@ module _ {none : List ℕ} {sources : Pair} (b : Blank none sources) where
 
 -- so many units were sent: what every side between the terminals
 -- could pass at the start is that much more than it can pass now
+pub record SentSoFar (ends : List ℕ) (sources sinks : Pair) (residual : List ℕ) (sent : ℕ) : Type 0 where
+  pub balanced : Balanced residual
+  pub passed : (g : Network) → Laid g ends → (S : Side) → Between sources sinks S
+      → capacity ends residual S + sent ≡ crossings g S
+
+module _ {ends : List ℕ} {sources sinks : Pair} {residual : List ℕ} {sent : ℕ}
+    (so_far : SentSoFar ends sources sinks residual sent) where
+  pub sent-on : {residual' : List ℕ} {more : Bool} → more ≡ true
+      → Rounded ends sources sinks residual residual' more
+      → SentSoFar ends sources sinks residual' (sent + 1)
+  sent-on e r = record {
+    balanced = r.balanced;
+    passed = λ g l S b. omega (arith, so_far.passed g l S b, r.more e S b);
+  }
+
+  -- a round that sends nothing finds a side that too few edges cross: as many as were sent, since it passes no more
+  pub sent-short : {residual' : List ℕ} {more : Bool} → sent < 4 → more ≡ false
+      → Rounded ends sources sinks residual residual' more
+      → (g : Network) → Laid g ends → FourApart g sources sinks → ⊥
+  sent-short lt e r g l apart =
+      let cut = r.full e in
+      omega (arith, cut.2, so_far.passed g l cut.0 cut.1, apart cut.0 cut.1)
+
+  -- after four units every side between the terminals is crossed by four edges and by as many as it can still pass
+  pub sent-four : 4 ≤ sent → (g : Network) → Laid g ends → FourApart g sources sinks
+  sent-four le g l S b = omega (arith, so_far.passed g l S b)
+
+-- the same of at most four units, which are as many as are asked for
 pub record Level (ends : List ℕ) (sources sinks : Pair) (residual : List ℕ) (sent : ℕ) : Type 0 where
   pub few : sent ≤ 4
   pub balanced : Balanced residual
@@ -190,23 +218,21 @@ level-none ends sources sinks = record {
 
 module _ {ends : List ℕ} {sources sinks : Pair} {residual : List ℕ} {sent : ℕ}
     (level : Level ends sources sinks residual sent) where
+  -- so all that holds of units that were sent holds of these
+  pub level-sent : SentSoFar ends sources sinks residual sent
+  level-sent = record { balanced = level.balanced; passed = level.passed }
+
   pub level-on : {residual' : List ℕ} {more : Bool} → sent < 4 → more ≡ true
       → Rounded ends sources sinks residual residual' more
       → Level ends sources sinks residual' (sent + 1)
-  level-on lt e r = record {
-    few = omega arith;
-    balanced = r.balanced;
-    passed = λ g l S b. omega (arith, level.passed g l S b, r.more e S b);
-  }
+  level-on lt e r =
+      let on = sent-on level-sent e r in
+      record { few = omega arith; balanced = on.balanced; passed = on.passed }
 
-  -- a round that sends nothing finds a side that too few edges cross: as many as were sent, since it passes no more
   pub level-short : {residual' : List ℕ} {more : Bool} → sent < 4 → more ≡ false
       → Rounded ends sources sinks residual residual' more
       → (g : Network) → Laid g ends → FourApart g sources sinks → ⊥
-  level-short lt e r g l apart =
-      let cut = r.full e in
-      omega (arith, cut.2, level.passed g l cut.0 cut.1, apart cut.0 cut.1)
+  level-short = sent-short level-sent
 
-  -- after four units every side between the terminals is crossed by four edges and by as many as it can still pass
   pub level-four : 4 ≤ sent → (g : Network) → Laid g ends → FourApart g sources sinks
-  level-four le g l S b = omega (arith, level.passed g l S b)
+  level-four = sent-four level-sent

@@ -115,7 +115,7 @@ impl Forest {
     }
 
     // Plants trees until each vertex has a place.
-    pub(crate) fn plant_all(
+    pub fn plant_all(
         &mut self,
         network: &Network,
         table: &Incidence,
