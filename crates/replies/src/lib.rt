@@ -7,6 +7,9 @@ ghost use Rattle.replies.specs.Lines.{said, written};
 use base::Refusal;
 use std::{fmt, io};
 
+#[cfg(test)]
+mod tests;
+
 // What is said of a reply: what was asked, and what came of it, or the refusal.
 #[derive(Clone, Copy)]
 pub struct Said<'a> {
@@ -42,7 +45,8 @@ pub fn say(rt: &impl Print, asked: &str, done: &str, reply: Result<(), Refusal>)
     println!(rt; "{}", Said { asked, done, reply })
 }
 
-// The same, and then the text that was written to the start of a buffer.
+// The same, and then the text that was written to the start of a buffer. Where nothing was written, nothing more is asked
+// of who prints.
 pub fn say_with_text(
     rt: &impl Print,
     asked: &str,
@@ -53,5 +57,8 @@ pub fn say_with_text(
     requires { IfOk reply (λ written. written ≤ length buffer.now) }
 {
     say(rt, asked, done, reply.and(Ok(())))?;
+    if reply.is_err() {
+        return Ok(());
+    }
     rt.write_all(written(reply, buffer))
 }
