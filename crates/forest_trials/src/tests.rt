@@ -37,21 +37,24 @@ fn pentagram() -> Network
 #[test]
 fn plants_a_tree_for_each_part(rt: HostRuntime) {
     let network = pentagram();
-    for (listed, order, parent, edge) in [
+    for (listed, number, order, parent, edge) in [
         (
             [true, true, true, true, true],
+            [0, 3, 1, 4, 2],
             [0, 2, 4, 1, 3],
             [NO_PLACE, 0, 1, 2, 3],
             [NO_EDGE, 0, 2, 4, 1],
         ),
         (
             [true, true, true, true, false],
+            [0, 4, 1, 3, 2],
             [0, 2, 4, 3, 1],
             [NO_PLACE, 0, 1, 0, 3],
             [NO_EDGE, 0, 2, 3, 1],
         ),
         (
             [true, true, true, false, false],
+            [0, 3, 1, 4, 2],
             [0, 2, 4, 1, 3],
             [NO_PLACE, 0, 1, NO_PLACE, 3],
             [NO_EDGE, 0, 2, NO_EDGE, 1],
@@ -69,7 +72,12 @@ fn plants_a_tree_for_each_part(rt: HostRuntime) {
             count: 0,
         };
         forest.plant_all(&network, &table, &mut ahead);
-        assert_eq!(rt; forest.count, VERTICES, "places of {listed:?}");
+        assert_eq!(rt; forest.count, VERTICES, "count of {listed:?}");
+        assert_eq!(rt;
+            forest.number[..VERTICES],
+            number[..],
+            "places of {listed:?}"
+        );
         assert_eq!(rt;
             forest.order[..VERTICES],
             order[..],
