@@ -6,7 +6,7 @@ use connection::Incidence;
 use forest::{Forest, NO_PLACE};
 use graph::Network;
 
-// How many vertices there are, and how many edges.
+// How many vertices there are, and how many edges; proofs/Ends.antt has the same number.
 const VERTICES: usize = 5;
 
 // No edge leads to a root.

@@ -1,39 +1,27 @@
 -- `forest_trials::tests::pentagram` meets its contract.
-use mathlib.Core.Path.{◌∙◌}
 use mathlib.Core.Bool.{true}
-use Prim.Native.Nat.{ℕ}
 use native.Mathlib.Omega.{arith}
-use lib.ListN.{length-set, length-replicate}
-use Rattle.base.specs.Limits.{vertex_limit, edge_limit}
-use Rattle.forest_trials.proofs.Columns.{below-zeros, below-set}
+use lib.ListN.{length-replicate}
+use Rattle.base.specs.Limits.{vertex_limit}
+use Rattle.forest_trials.proofs.Ends.{ends-zeros, ends-set, end-below}
 use Rattle.forest_trials.proofs.tests.pentagram.Goals as goal
 
 pub loop-e-init : goal.loop-e-init
-loop-e-init c = (
-  length-replicate {A = ℕ} edge_limit 0,
-  length-replicate {A = ℕ} edge_limit 0,
-  λ e. (below-zeros edge_limit (omega arith) e, below-zeros edge_limit (omega arith) e),
-)
+loop-e-init c = (ends-zeros, ends-zeros)
 
 pub loop-e-preserved : goal.loop-e-preserved
 loop-e-preserved c =
-    let i = c.loop-e.invariant in (
-      length-set c.loop-e.low _ _ ∙ i.0,
-      length-set c.loop-e.high _ _ ∙ i.1,
-      λ e. (
-        below-set c.loop-e.low _ _ (λ k. (i.2 k).0) (omega arith) e,
-        below-set c.loop-e.high _ _ (λ k. (i.2 k).1) (omega arith) e,
-      ),
-    )
+    let ends = c.loop-e.invariant in
+    (ends-set ends.0 _ _ (omega arith), ends-set ends.1 _ _ (omega arith))
 
 pub returns : goal.returns
 returns c =
-    let i = c.loop-e.invariant in
+    let ends = c.loop-e.invariant in
     record {
-      low_room = omega (arith, i.0);
-      high_room = omega (arith, i.1);
+      low_room = omega (arith, ends.0.long);
+      high_room = omega (arith, ends.1.long);
       present_room = omega (arith, length-replicate vertex_limit true);
       some = omega arith;
-      low_below = λ e l. (i.2 e).0;
-      high_below = λ e l. (i.2 e).1;
+      low_below = end-below ends.0;
+      high_below = end-below ends.1;
     }
